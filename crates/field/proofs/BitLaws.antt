@@ -1,0 +1,81 @@
+-- Three ways in which two numbers stand, and the binary digits of words: of an or, an xor, and a single one.
+-- Assumes nothing.
+use mathlib.Core.Path.{_≡_, refl, sym, ap, ap₂, _∙_}
+use mathlib.Core.Logic.{_⊎_, inl, inr, ⊎-elim}
+use Prim.Native.Nat.{ℕ, zero, suc, _+_, _-_, _*_, _/_, _%_, _^_, _≤_, _<_, max}
+use native.Mathlib.Nat.{add-zero, one-mul, mod-lt, div-eq-of-lt}
+use native.Mathlib.Omega.{arith}
+use lib.Dec.{lit<}
+use lib.Arith.{digits-mod}
+use lib.Pow.{pow-pos, pow-lt, pow-add, shl-shr, shl-exact, split}
+use lib.Bits.{bitAnd, bitOr, bitXor, differ, or-shr, or-step, xor-shr, xor-step, shifted-even, and-block, and-mask, and-zero-r}
+
+pub tri : (a b : ℕ) → (a < b) ⊎ ((a ≡ b) ⊎ (b < a))
+tri zero zero = inr (inl refl)
+tri zero (suc b) = inl (omega arith)
+tri (suc a) zero = inr (inr (omega arith))
+tri (suc a) (suc b) = ⊎-elim (λ h. inl (omega arith)) (λ o. inr (⊎-elim (λ e. inl (ap suc e)) (λ h. inr (omega arith)) o)) (tri a b)
+
+-- equal, or not
+pub same-or : (a b : ℕ) → (a ≡ b) ⊎ (a ≡ b → ⊥)
+same-or a b = ⊎-elim (λ h. inr (λ e. omega arith)) (⊎-elim inl (λ h. inr (λ e. omega arith))) (tri a b)
+
+pub lt-or-le : (a b : ℕ) → (a < b) ⊎ (b ≤ a)
+lt-or-le a b = ⊎-elim inl (⊎-elim (λ e. inr (omega arith)) (λ h. inr (omega arith))) (tri a b)
+
+-- in the row of k numbers from p on, or not
+pub row-or : (p k q : ℕ) → ((p ≤ q) × (q < p + k)) ⊎ (p ≤ q → q < p + k → ⊥)
+row-or p k q =
+    ⊎-elim (λ h. inr (λ a b. omega arith)) (λ h. ⊎-elim (λ l. inl (h, l)) (λ l. inr (λ a b. omega arith)) (lt-or-le q (p + k))) (lt-or-le q p)
+
+pub one-shl : (k : ℕ) → k < 64 → (1 * 2 ^ k) % 2 ^ 64 ≡ 2 ^ k
+one-shl k h = shl-exact 1 k 64 (lit< tt) (omega arith) ∙ one-mul (2 ^ k)
+
+-- ---- digits
+
+pub digit-or : (a b k : ℕ) → bitOr a b / 2 ^ k % 2 ≡ max (a / 2 ^ k % 2) (b / 2 ^ k % 2)
+digit-or a b k =
+    ap (λ (x : ℕ). x % 2) (or-shr a b k ∙ or-step (a / 2 ^ k) (b / 2 ^ k))
+    ∙ digits-mod (bitOr (a / 2 ^ k / 2) (b / 2 ^ k / 2)) (omega arith)
+
+differ-lt : (x y : ℕ) → x < 2 → y < 2 → differ x y < 2
+differ-lt zero y a b = b
+differ-lt (suc zero) zero a b = a
+differ-lt (suc zero) (suc y) a b = omega arith
+differ-lt (suc (suc x)) y a b = absurd (omega arith)
+
+pub digit-xor : (a b k : ℕ) → bitXor a b / 2 ^ k % 2 ≡ differ (a / 2 ^ k % 2) (b / 2 ^ k % 2)
+digit-xor a b k =
+    ap (λ (x : ℕ). x % 2) (xor-shr a b k ∙ xor-step (a / 2 ^ k) (b / 2 ^ k))
+    ∙ digits-mod (bitXor (a / 2 ^ k / 2) (b / 2 ^ k / 2)) (differ-lt (a / 2 ^ k % 2) (b / 2 ^ k % 2) (omega arith) (omega arith))
+
+pub differ-zero : (x : ℕ) → differ x 0 ≡ x
+differ-zero zero = refl
+differ-zero (suc x) = refl
+
+pub digit-pow-same : (k : ℕ) → 2 ^ k / 2 ^ k % 2 ≡ 1
+digit-pow-same k = ap (λ (x : ℕ). x % 2) (ap (λ (x : ℕ). x / 2 ^ k) (omega arith) ∙ shl-shr 1 k)
+
+digit-pow-below : (j k : ℕ) → j < k → 2 ^ j / 2 ^ k % 2 ≡ 0
+digit-pow-below j k h = ap (λ (x : ℕ). x % 2) (div-eq-of-lt (pow-lt h))
+
+digit-pow-above : (d k : ℕ) → 2 ^ (suc d + k) / 2 ^ k % 2 ≡ 0
+digit-pow-above d k =
+    ap (λ (x : ℕ). x / 2 ^ k % 2) (pow-add 2 (suc d) k)
+    ∙ ap (λ (x : ℕ). x % 2) (shl-shr (2 ^ suc d) k)
+    ∙ ap (λ (x : ℕ). x % 2) (omega arith)
+    ∙ shifted-even 1 d
+
+pub digit-pow-other : (j k : ℕ) → (j ≡ k → ⊥) → 2 ^ j / 2 ^ k % 2 ≡ 0
+digit-pow-other j k n = ⊎-elim (digit-pow-below j k) (⊎-elim (λ e. absurd (n e)) above) (tri j k)
+  where
+    above : k < j → 2 ^ j / 2 ^ k % 2 ≡ 0
+    above h =
+        let e : j ≡ suc (j - k - 1) + k = omega arith in
+        ap (λ (x : ℕ). 2 ^ x / 2 ^ k % 2) e ∙ digit-pow-above (j - k - 1) k
+
+pub and-pow : (w k : ℕ) → bitAnd w (2 ^ k) ≡ (w / 2 ^ k % 2) * 2 ^ k
+and-pow w k =
+    let e : 2 ^ k ≡ 1 * 2 ^ k + 0 = omega arith in
+    ap₂ bitAnd (sym (split w k)) e ∙ and-block k (w / 2 ^ k) 1 (w % 2 ^ k) 0 (mod-lt w (pow-pos k)) (pow-pos k)
+    ∙ ap₂ (λ (x y : ℕ). x * 2 ^ k + y) (and-mask (w / 2 ^ k) 1) (and-zero-r (w % 2 ^ k)) ∙ add-zero ((w / 2 ^ k % 2) * 2 ^ k)

@@ -1,0 +1,5 @@
+-- What the contracts of `field` cite.
+pub mod Field
+pub mod Run
+pub mod Order
+pub mod Marks

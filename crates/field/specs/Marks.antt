@@ -1,0 +1,38 @@
+-- A set of page numbers below 32,768, held as 512 words of 64 marks: what the contracts of `field::marks` cite.
+-- Assumes nothing.
+use mathlib.Core.Path.{_≡_}
+use mathlib.Core.List.{List}
+use mathlib.Core.Bool.{Bool}
+use Prim.Native.Nat.{ℕ, zero, suc, _+_, _/_, _%_, _^_}
+use lib.Dec.{eqb}
+use lib.Bits.{bitOr}
+use lib.ListN.{getD, set, replicate}
+
+-- page k's mark, 0 or 1: digit k % 64 of word k / 64
+unfoldable pub mark : List ℕ → ℕ → ℕ
+mark m k = getD m (k / 64) 0 / 2 ^ (k % 64) % 2
+
+-- page k is marked
+abbrev pub Marked : List ℕ → ℕ → Type 0
+Marked m k = mark m k ≡ 1
+
+-- the same, as a test
+abbrev pub isMarked : List ℕ → ℕ → Bool
+isMarked m k = eqb (mark m k) 1
+
+-- how many of the pages below n are marked
+unfoldable pub countBelow : List ℕ → ℕ → ℕ
+countBelow m zero = 0
+countBelow m (suc k) = mark m k + countBelow m k
+
+-- how many pages are marked
+unfoldable pub count : List ℕ → ℕ
+count m = countBelow m 32768
+
+-- the set with page p in it
+unfoldable pub withMark : List ℕ → ℕ → List ℕ
+withMark m p = set m (p / 64) (bitOr (getD m (p / 64) 0) (2 ^ (p % 64)))
+
+-- the set with no page in it
+unfoldable pub noMarks : List ℕ
+noMarks = replicate 512 0

@@ -1,0 +1,18 @@
+-- The order of two keys.
+use Prim.Native.Nat.{ℕ}
+use mathlib.Core.List.{List, [], _∷_}
+use mathlib.Core.Bool.{Bool, true, false}
+use lib.Dec.{ltb}
+use Rattle.field.specs.declared.order.Order.{Order}
+use Rattle.field.specs.declared.order.Order.the-variants.{Lower, Equal, Higher}
+
+abbrev pub pickOrder : Bool → Order → Order → Order
+pickOrder true a b = a
+pickOrder false a b = b
+
+-- byte order: at the first place where the two differ, the lower byte; a prefix is lower
+unfoldable pub orderOf : List ℕ → List ℕ → Order
+orderOf [] [] = Equal
+orderOf [] (y ∷ ys) = Lower
+orderOf (x ∷ xs) [] = Higher
+orderOf (x ∷ xs) (y ∷ ys) = pickOrder (ltb x y) Lower (pickOrder (ltb y x) Higher (orderOf xs ys))

@@ -1,0 +1,125 @@
+// Numbers in a slice of bytes: u32 and u64 with the lowest byte first, and u64 with the highest byte first.
+ghost use mathlib.Core.Path.{_≡_};
+ghost use Prim.Native.Nat.{_+_, _<_, _≤_};
+ghost use lib.ListN.{length, getD};
+ghost use Rattle.field.specs.Field.{field, bigField, bytesOf};
+ghost use Rattle.field.specs.Run.{putAt};
+
+// The byte as a u64.
+fn wide(x: u8) -> u64
+    ensures { λ r. ⌜ (r ≡ x) × (r < 256) ⌝ }
+{
+    x as u64
+}
+
+// The byte at a place, as a u64.
+pub fn byte_at(s: &[u8], at: usize) -> u64
+    requires { ⌜ at < length (now s) ⌝ }
+    ensures { λ r. ⌜ (r ≡ getD (now (s .entry)) at 0) × (r < 256) ⌝ }
+{
+    wide(s[at])
+}
+
+// The u32 of the four bytes from `at` on.
+pub fn u32_at(s: &[u8], at: usize) -> u32
+    requires { ⌜ at + 4 ≤ length (now s) ⌝ }
+    ensures { λ r. ⌜ r ≡ field 4 (now (s .entry)) at ⌝ }
+{
+    let a1 = at + 1;
+    let a2 = a1 + 1;
+    let a3 = a2 + 1;
+    (byte_at(s, at)
+        + 256 * byte_at(s, a1)
+        + 65536 * byte_at(s, a2)
+        + 16777216 * byte_at(s, a3)) as u32
+}
+
+// The u64 of the eight bytes from `at` on.
+pub fn u64_at(s: &[u8], at: usize) -> u64
+    requires { ⌜ at + 8 ≤ length (now s) ⌝ }
+    ensures { λ r. ⌜ r ≡ field 8 (now (s .entry)) at ⌝ }
+{
+    let a1 = at + 1;
+    let a2 = a1 + 1;
+    let a3 = a2 + 1;
+    let a4 = a3 + 1;
+    let a5 = a4 + 1;
+    let a6 = a5 + 1;
+    let a7 = a6 + 1;
+    byte_at(s, at)
+        + 256 * byte_at(s, a1)
+        + 65536 * byte_at(s, a2)
+        + 16777216 * byte_at(s, a3)
+        + 4294967296 * byte_at(s, a4)
+        + 1099511627776 * byte_at(s, a5)
+        + 281474976710656 * byte_at(s, a6)
+        + 72057594037927936 * byte_at(s, a7)
+}
+
+// The big-endian u64 of the eight bytes from `at` on: two of them stand as the bytes do.
+pub fn big_u64_at(s: &[u8], at: usize) -> u64
+    requires { ⌜ at + 8 ≤ length (now s) ⌝ }
+    ensures { λ r. ⌜ r ≡ bigField 8 (now (s .entry)) at ⌝ }
+{
+    let a1 = at + 1;
+    let a2 = a1 + 1;
+    let a3 = a2 + 1;
+    let a4 = a3 + 1;
+    let a5 = a4 + 1;
+    let a6 = a5 + 1;
+    let a7 = a6 + 1;
+    72057594037927936 * byte_at(s, at)
+        + 281474976710656 * byte_at(s, a1)
+        + 1099511627776 * byte_at(s, a2)
+        + 4294967296 * byte_at(s, a3)
+        + 16777216 * byte_at(s, a4)
+        + 65536 * byte_at(s, a5)
+        + 256 * byte_at(s, a6)
+        + byte_at(s, a7)
+}
+
+// Puts the four bytes of `v` at `at`.
+pub fn put_u32(out: &mut [u8], at: usize, v: u32)
+    requires { ⌜ at + 4 ≤ length (now out) ⌝ }
+    ensures { λ _. ⌜ now (out .exit) ≡ putAt (now (out .entry)) at (bytesOf 4 v) ⌝ }
+{
+    let a1 = at + 1;
+    let a2 = a1 + 1;
+    let a3 = a2 + 1;
+    let v1 = v / 256;
+    let v2 = v1 / 256;
+    let v3 = v2 / 256;
+    out[at] = (v % 256) as u8;
+    out[a1] = (v1 % 256) as u8;
+    out[a2] = (v2 % 256) as u8;
+    out[a3] = (v3 % 256) as u8;
+}
+
+// Puts the eight bytes of `v` at `at`.
+pub fn put_u64(out: &mut [u8], at: usize, v: u64)
+    requires { ⌜ at + 8 ≤ length (now out) ⌝ }
+    ensures { λ _. ⌜ now (out .exit) ≡ putAt (now (out .entry)) at (bytesOf 8 v) ⌝ }
+{
+    let a1 = at + 1;
+    let a2 = a1 + 1;
+    let a3 = a2 + 1;
+    let a4 = a3 + 1;
+    let a5 = a4 + 1;
+    let a6 = a5 + 1;
+    let a7 = a6 + 1;
+    let v1 = v / 256;
+    let v2 = v1 / 256;
+    let v3 = v2 / 256;
+    let v4 = v3 / 256;
+    let v5 = v4 / 256;
+    let v6 = v5 / 256;
+    let v7 = v6 / 256;
+    out[at] = (v % 256) as u8;
+    out[a1] = (v1 % 256) as u8;
+    out[a2] = (v2 % 256) as u8;
+    out[a3] = (v3 % 256) as u8;
+    out[a4] = (v4 % 256) as u8;
+    out[a5] = (v5 % 256) as u8;
+    out[a6] = (v6 % 256) as u8;
+    out[a7] = (v7 % 256) as u8;
+}
