@@ -3,3 +3,4 @@ pub mod Field
 pub mod Run
 pub mod Order
 pub mod Marks
+pub mod Sizes

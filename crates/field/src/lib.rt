@@ -3,5 +3,6 @@ pub mod marks;
 pub mod number;
 pub mod order;
 pub mod run;
+pub mod sizes;
 
 pub use order::Order;
