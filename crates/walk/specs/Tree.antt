@@ -1,0 +1,190 @@
+-- A tree of pages: what its judge `walk` says, what `lookup` answers, and which pages and entries are reached.
+-- What stands on a page is given by a `view`, a parameter: this file knows nothing of bytes.
+use Prim.Native.Nat.{ℕ, zero, suc, _+_}
+use mathlib.Core.Path.{_≡_}
+use mathlib.Core.List.{List, [], _∷_}
+use mathlib.Core.Bool.{Bool, true, false, not, _&&_, _||_, cond}
+use mathlib.Core.Option.{Option, none, some}
+use lib.Dec.{leb, ltb, eqb}
+use lib.ListN.{length}
+use Rattle.field.specs.declared.order.Order.{Order}
+use Rattle.field.specs.declared.order.Order.the-variants.{Lower, Equal, Higher}
+use Rattle.field.specs.Order.{orderOf}
+
+-- ---- keys
+abbrev pub Key : Type 0
+Key = List ℕ
+
+abbrev pub isLower : Order → Bool
+isLower Lower = true
+isLower Equal = false
+isLower Higher = false
+
+abbrev pub isEqual : Order → Bool
+isEqual Lower = false
+isEqual Equal = true
+isEqual Higher = false
+
+unfoldable pub lower : Key → Key → Bool
+lower a b = isLower (orderOf a b)
+
+unfoldable pub same : Key → Key → Bool
+same a b = isEqual (orderOf a b)
+
+-- a key is below a range's high end, which may be missing
+abbrev pub under : Key → Option Key → Bool
+under k none = true
+under k (some h) = lower k h
+
+-- a key is in the range from low, included, up to high, not included
+abbrev pub inRange : Key → Option Key → Key → Bool
+inRange low high k = not (lower k low) && under k high
+
+-- ---- what stands on a page
+pub record Item (A : Type 0) : Type 0 where
+  pub key : Key
+  pub value : A
+
+-- a page that is refused, with the rule and the element; a branch's separators, each with the page of its child; a leaf's entries
+pub data View (P : Type 0) : Type 0 where
+  bad : ℕ → ℕ → View P
+  branch : List (Item ℕ) → View P
+  leaf : List (Item P) → View P
+
+abbrev pub keys : {A : Type 0} → List (Item A) → List Key
+keys [] = []
+keys (x ∷ xs) = x .key ∷ keys xs
+
+-- x is element i of a list
+abbrev pub At : {A : Type 0} → List A → ℕ → A → Type 0
+At [] i x = ⊥
+At (y ∷ ys) zero x = y ≡ x
+At (y ∷ ys) (suc i) x = At ys i x
+
+-- Q holds of each element of a list
+abbrev pub Every : {A : Type 0} → (A → Type 0) → List A → Type 0
+Every Q [] = Unit
+Every Q (x ∷ xs) = Q x × Every Q xs
+
+-- each key is below the next
+abbrev pub Rising : List Key → Type 0
+Rising [] = Unit
+Rising (a ∷ []) = Unit
+Rising (a ∷ b ∷ ks) = (lower a b ≡ true) × Rising (b ∷ ks)
+
+-- ---- pages
+abbrev pub memb : ℕ → List ℕ → Bool
+memb p [] = false
+memb p (q ∷ qs) = eqb p q || memb p qs
+
+-- no page twice
+abbrev pub Distinct : List ℕ → Type 0
+Distinct [] = Unit
+Distinct (p ∷ ps) = (memb p ps ≡ false) × Distinct ps
+
+-- the pages of a file of N pages that can be in a tree: 2 to N - 1
+abbrev pub inside : ℕ → ℕ → Bool
+inside N p = leb 2 p && ltb p N
+
+-- ---- the judge
+-- the number of entries and the pages visited, or the rule that is broken, the page and the element
+pub data Verdict : Type 0 where
+  pass : ℕ → List ℕ → Verdict
+  fault : ℕ → ℕ → ℕ → Verdict
+
+abbrev pub andThen : Verdict → (ℕ → List ℕ → Verdict) → Verdict
+andThen (pass n vs) k = k n vs
+andThen (fault r p e) k = fault r p e
+
+-- the index of the first key out of range, counted from i
+unfoldable pub firstOut : Key → Option Key → List Key → ℕ → Option ℕ
+firstOut low high [] i = none
+firstOut low high (k ∷ ks) i = cond (inRange low high k) (firstOut low high ks (suc i)) (some i)
+
+-- rule 7, and then the verdict
+abbrev pub unlessOut : Option ℕ → ℕ → Verdict → Verdict
+unlessOut none page v = v
+unlessOut (some i) page v = fault 7 page i
+
+-- a range's high end: the next child's separator, and for the last child the branch's own high end
+abbrev pub next : List (Item ℕ) → Option Key → Option Key
+next [] high = high
+next (c ∷ cs) high = some (c .key)
+
+-- how a page one level down is walked: by its number, its range, and the pages visited
+abbrev pub Walker : Type 0
+Walker = ℕ → Key → Option Key → List ℕ → Verdict
+
+-- the children in order, after n entries
+unfoldable pub walkAll : Walker → List (Item ℕ) → Option Key → ℕ → List ℕ → Verdict
+walkAll go [] high n vs = pass n vs
+walkAll go (c ∷ cs) high n vs = andThen (go (c .value) (c .key) (next cs high) vs) (λ m ws. walkAll go cs high (n + m) ws)
+
+unfoldable pub walkPage : {P : Type 0} → Walker → View P → ℕ → Key → Option Key → List ℕ → Verdict
+walkPage go (bad r e) page low high vs = fault r page e
+walkPage go (branch cs) page low high vs = unlessOut (firstOut low high (keys cs) 0) page (walkAll go cs high 0 vs)
+walkPage go (leaf es) page low high vs = unlessOut (firstOut low high (keys es) 0) page (pass (length es) vs)
+
+-- ---- the search
+pub data Answer (P : Type 0) : Type 0 where
+  refused : ℕ → ℕ → ℕ → Answer P
+  found : Item P → ℕ → ℕ → Answer P
+  absent : Answer P
+
+-- the child for a key: the first whose next separator is above the key, or which is the last
+unfoldable pub childFor : List (Item ℕ) → Key → ℕ
+childFor [] key = 0
+childFor (c ∷ cs) key = cond (under key (next cs none)) (c .value) (childFor cs key)
+
+-- the entry with this key, of those from index i on
+unfoldable pub seekFrom : {P : Type 0} → List (Item P) → Key → ℕ → ℕ → Answer P
+seekFrom [] key page i = absent
+seekFrom (e ∷ es) key page i = cond (same (e .key) key) (found e page i) (seekFrom es key page (suc i))
+
+unfoldable pub lookPage : {P : Type 0} → (ℕ → Answer P) → View P → ℕ → Key → Answer P
+lookPage go (bad r e) page key = refused r page e
+lookPage go (branch cs) page key = go (childFor cs key)
+lookPage go (leaf es) page key = seekFrom es key page 0
+
+-- ---- the tree, by the number of pages and the view of each, as the root's level or below
+module _ {P : Type 0} (N : ℕ) (view : ℕ → Bool → View P) where
+  unfoldable pub walk : ℕ → Bool → ℕ → Key → Option Key → List ℕ → Verdict
+  walk zero top page low high vs = fault 9 page 0
+  walk (suc d) top page low high vs =
+      cond (inside N page)
+      (cond (memb page vs) (fault 8 page 0) (walkPage (walk d false) (view page top) page low high (page ∷ vs)))
+      (fault 2 page 0)
+
+  unfoldable pub lookup : ℕ → Bool → ℕ → Key → Answer P
+  lookup zero top page key = refused 9 page 0
+  lookup (suc d) top page key = cond (inside N page) (lookPage (λ p. lookup d false p key) (view page top) page key) (refused 2 page 0)
+
+module _ {P : Type 0} (view : ℕ → Bool → View P) where
+  -- page q, viewed as the root or not, is on this level below page p, which is on level 1
+  pub data Below : ℕ → Bool → ℕ → ℕ → Bool → Type 0 where
+    here : {p : ℕ} {t : Bool} → Below p t 1 p t
+    down : {p : ℕ} {t : Bool} {cs : List (Item ℕ)} (i : ℕ) (c : Item ℕ) {l q : ℕ} {s : Bool}
+        → view p t ≡ branch cs
+        → At cs i c
+        → Below (c .value) false l q s
+        → Below p t (suc l) q s
+
+  -- page q is reached from page p
+  pub record Reached (p : ℕ) (t : Bool) (q : ℕ) : Type 0 where
+    pub level : ℕ
+    pub top : Bool
+    pub way : Below p t level q top
+
+  -- e is entry i of the leaf q, which is reached from page p
+  pub record LeafEntry (p : ℕ) (t : Bool) (q i : ℕ) (e : Item P) : Type 0 where
+    pub level : ℕ
+    pub top : Bool
+    pub entries : List (Item P)
+    pub way : Below p t level q top
+    pub isLeaf : view q top ≡ leaf entries
+    pub entryAt : At entries i e
+
+  -- what a page's own check has seen to
+  pub record Checked : Type 0 where
+    pub branches : (p : ℕ) (t : Bool) (cs : List (Item ℕ)) → view p t ≡ branch cs → (cs ≡ [] → ⊥) × Rising (keys cs)
+    pub leaves : (p : ℕ) (t : Bool) (es : List (Item P)) → view p t ≡ leaf es → Rising (keys es)
