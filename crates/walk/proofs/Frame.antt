@@ -10,7 +10,7 @@ use Rattle.walk.specs.Tree.{Key, under, Item, View, bad, branch, leaf, k
 use Rattle.walk.proofs.KeyLaws.{under-some}
 
 -- the child for a key is a child, where there is one
-child-at : (cs : List (Item ℕ)) (key : Key) → (cs ≡ []) ⊎ ((i : ℕ) × (c : Item ℕ) × At cs i c × (childFor cs key ≡ c .value))
+pub child-at : (cs : List (Item ℕ)) (key : Key) → (cs ≡ []) ⊎ ((i : ℕ) × (c : Item ℕ) × At cs i c × (childFor cs key ≡ c .value))
 unfolding childFor
 child-at [] key = inl refl
 child-at (c ∷ cs) key = inr (go (under key (next cs none)) refl (child-at cs key))

@@ -6,6 +6,7 @@ pub mod Search
 pub mod Reach
 pub mod Count
 pub mod Frame
+pub mod Depth
 pub mod Theorems
 pub mod SoundLaws
 pub mod Bridge

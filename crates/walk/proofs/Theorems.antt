@@ -13,6 +13,7 @@ use Rattle.walk.proofs.Slots.{Mem, Slot, keyAt, seek, Sorted, Sought, h
 use Rattle.walk.proofs.Walked.{Walked, walked}
 use Rattle.walk.proofs.Search.{sorted, searched}
 use Rattle.walk.proofs.Count.{no-longer, sorted-unique}
+use Rattle.walk.proofs.Depth.{Landed, landed}
 use Rattle.walk.proofs.Frame.{lookup-frame, walk-frame}
 use Rattle.walk.proofs.Reach.{entered, listed, visited, only, distinct}
 
@@ -51,6 +52,10 @@ module _ {P : Type 0}
 
     answer : (key : Key) → Sought (listing .all) key (lookup N view 16 true root key)
     answer key = rw (lookup-searches key) (sought (listing .all) key)
+
+    -- a lookup comes to a leaf that is reached, by level 16
+    pub lands : (key : Key) → Landed N view key 16 true root
+    lands key = landed N view checked key (how .1)
 
     -- T1
     pub never-refused : (key : Key) (r p e : ℕ) → lookup N view 16 true root key ≡ refused r p e → ⊥
