@@ -1,0 +1,21 @@
+-- Where elements and keys stand, for either kind of block.
+-- Assumes nothing.
+use mathlib.Core.Path.{_≡_}
+use mathlib.Core.Bool.{Bool, true, false}
+use mathlib.Core.List.{List}
+use Prim.Native.Nat.{ℕ, _+_, _-_, _*_, _≤_, _<_}
+use native.Mathlib.Nat.{add-sub-cancel-left}
+use native.Mathlib.Omega.{arith}
+use lib.ListN.{length, take, drop}
+use Rattle.page.specs.Layout.{elementSize, elementAt, keySize, keyAt, keyOf}
+
+-- an element's place is before the table's end
+pub element-in : (leaf : Bool) (i n : ℕ) → i < n → elementAt leaf i + elementSize leaf ≤ elementAt leaf n
+element-in false i n l = omega arith
+element-in true i n l = omega arith
+
+-- the part of a block that the code takes is the key
+pub key-part : (leaf : Bool) (b : List ℕ) (i start size : ℕ) → start ≡ keyAt leaf b i → size ≡ keySize leaf b i
+    → take (start + size - start) (drop start b) ≡ keyOf leaf b i
+unfolding keyOf
+key-part leaf b i start size p q = rw (add-sub-cancel-left start size, p, q)

@@ -1,0 +1,2 @@
+-- A scan of a sound block stops where a binary search does.
+-- Assumes nothing.
