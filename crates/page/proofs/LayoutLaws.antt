@@ -7,12 +7,16 @@ use Prim.Native.Nat.{ℕ, _+_, _-_, _*_, _≤_, _<_}
 use native.Mathlib.Nat.{add-sub-cancel-left}
 use native.Mathlib.Omega.{arith}
 use lib.ListN.{length, take, drop}
-use Rattle.page.specs.Layout.{elementSize, elementAt, keySize, keyAt, keyOf}
+use Rattle.page.specs.Layout.{countOf, elementSize, elementAt, keySize, keyAt, tableEnd, keyOf}
 
 -- an element's place is before the table's end
 pub element-in : (leaf : Bool) (i n : ℕ) → i < n → elementAt leaf i + elementSize leaf ≤ elementAt leaf n
 element-in false i n l = omega arith
 element-in true i n l = omega arith
+
+pub element-room : (leaf : Bool) (b : List ℕ) (i : ℕ) → i < countOf b → tableEnd leaf b ≤ length b → elementAt leaf i + elementSize leaf ≤ length b
+element-room false b i l h = omega arith
+element-room true b i l h = omega arith
 
 -- the part of a block that the code takes is the key
 pub key-part : (leaf : Bool) (b : List ℕ) (i start size : ℕ) → start ≡ keyAt leaf b i → size ≡ keySize leaf b i

@@ -1,9 +1,9 @@
 // The rules that a sound block keeps, each a function: 01's rules 4 to 7.
 ghost use mathlib.Core.Path.{_≡_};
-ghost use mathlib.Core.Bool.{true, false};
+ghost use mathlib.Core.Bool.{true, false, not, _||_};
 ghost use Prim.Native.Nat.{ℕ, _+_, _-_, _^_, _<_, _≤_};
 ghost use lib.ListN.{length};
-ghost use Rattle.page.specs.Layout.{countOf, elementAt, tableEnd, valueAt};
+ghost use Rattle.page.specs.Layout.{countOf, isBranch, isLeaf, elementAt, tableEnd, valueAt};
 ghost use Rattle.page.specs.PageRules.{firstBad, headerBad, tableBad, elementBad, keyBad, kindBad, checkOf, lengthBad, lentHeaderBad, lentCheckOf};
 ghost use Rattle.page.specs.PageRules.{outside as outsideOf};
 use super::layout::BRANCH_SIZE;
@@ -27,6 +27,18 @@ pub enum Verdict {
     Breach(u64, usize),
 }
 
+// Whether the page is neither a branch nor a leaf.
+fn type_bad(s: &[u8]) -> bool
+    requires { ⌜ 32 ≤ length (now s) ⌝ }
+    ensures { λ r. ⌜ r ≡ not (isBranch (now (s .entry)) || isLeaf (now (s .entry))) ⌝ }
+{
+    let t = page_type(s);
+    if t == TYPE_BRANCH {
+        return false;
+    }
+    t != TYPE_LEAF
+}
+
 // Whether the header of page `q` of `n`, in the bytes that start with it, breaks rule 4.
 pub fn header_bad(s: &[u8], n: usize, q: usize) -> bool
     requires { ⌜ (32 ≤ length (now s)) × (q < n) ⌝ }
@@ -35,11 +47,8 @@ pub fn header_bad(s: &[u8], n: usize, q: usize) -> bool
     if id(s) != q {
         return true;
     }
-    let t = page_type(s);
-    if t != TYPE_BRANCH {
-        if t != TYPE_LEAF {
-            return true;
-        }
+    if type_bad(s) {
+        return true;
     }
     n - q <= overflow(s)
 }
@@ -210,11 +219,8 @@ fn lent_header_bad(b: &[u8], p: usize) -> bool
     requires { ⌜ lengthBad p (now b) ≡ false ⌝ }
     ensures { λ r. ⌜ r ≡ lentHeaderBad p (now (b .entry)) ⌝ }
 {
-    let t = page_type(b);
-    if t != TYPE_BRANCH {
-        if t != TYPE_LEAF {
-            return true;
-        }
+    if type_bad(b) {
+        return true;
     }
     overflow(b) != b.len() / p - 1
 }

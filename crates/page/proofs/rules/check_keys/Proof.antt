@@ -1,84 +1,81 @@
+-- `page::rules::check_keys` meets its contract. The loop's invariant: the first bad element is the first from `i` on.
+-- The measure is what is left of the elements. Assumes nothing.
+use Prim.Native.Nat.{_-_, _≤_}
+use mathlib.Core.Path.{_≡_, refl, sym, ap, _∙_}
+use mathlib.Core.Bool.{not}
+use mathlib.Core.List.{List}
+use borrow.Author.Needs.{needs}
+use native.Mathlib.Omega.{arith}
+use denote.Ref.{now}
+use Rattle.field.specs.declared.order.Order.{Order}
+use Rattle.field.specs.Order.{orderOf}
+use Rattle.page.specs.Layout.{keyOf}
+use Rattle.page.specs.PageRules.{firstBad, keyBad, isLower}
+use Rattle.page.proofs.LayoutLaws.{element-room}
+use Rattle.page.proofs.RuleLaws.{bad-skip, bad-here, bad-none, key-test}
 use Rattle.page.proofs.rules.check_keys.Statement.{statement}
 use Rattle.page.proofs.rules.check_keys.Tie as tie
-use Rattle.page.proofs.rules.check_keys.Reads as reads
-use Rattle.page.proofs.rules.check_keys.Lts as lts
-use Rattle.page.proofs.layout.key.Reads as key-reads
-use Rattle.page.proofs.layout.key_order.Reads as key-order-reads
 
 abbrev Inv-loop : tie.InvT-loop
-Inv-loop b leaf n i₀ i = ?
+Inv-loop b leaf n i₀ i = (1 ≤ i) × (firstBad (keyBad leaf b) 6 (n - 1) 1 ≡ firstBad (keyBad leaf b) 6 (n - i) i)
 
 abbrev μ-loop : tie.MeasureT-loop
-μ-loop b leaf n i₀ i = ?
+μ-loop b leaf n i₀ i = n - i
 
--- src/rules.rt:164:5
-loop-holds : tie.Need-loop-holds Inv-loop μ-loop
-loop-holds c = ?
-
--- src/rules.rt:165:34
-sub-key-order : tie.Need-sub-key-order Inv-loop μ-loop
-sub-key-order c = ?
-
--- src/rules.rt:165:41
 key-requires : tie.Need-key-requires Inv-loop μ-loop
-key-requires c κs = ?
+key-requires c κs =
+    let s = c .before .before .before in
+    let i = c .before .loop .i in
+    (element-room (s .args .leaf) (now (s .args .b)) i (omega arith) (s .pre .1), s .pre .2 i (omega arith))
 
--- src/rules.rt:165:15
 key-order-requires : tie.Need-key-order-requires Inv-loop μ-loop
-key-order-requires c κs = ?
+key-order-requires c κs =
+    let s = c .before .before .before .before in
+    let i = c .before .before .loop .i in
+    (element-room (s .args .leaf) (now (s .args .b)) (i - 1) (omega arith) (s .pre .1), s .pre .2 (i - 1) (omega arith))
 
--- src/rules.rt:167:17
-enum-told : tie.Need-enum-told Inv-loop μ-loop
-enum-told c = ?
+-- what the order of the two keys says of the later element
+told : (c : tie.After-key-order Inv-loop μ-loop) (o : Order) → c .key-order .result ≡ o
+    → keyBad (c .before .before .before .before .before .args .leaf) (now (c .before .before .before .before .before .args .b)) (c .before .before .before .loop .i) ≡ not (isLower o)
+told c o e =
+    let a = c .before .before .before .before .before .args in
+    let i = c .before .before .before .loop .i in
+    key-test (a .leaf) (now (a .b)) i o (sym e ∙ c .key-order .ensures ∙ ap (orderOf (keyOf (a .leaf) (now (a .b)) (i - 1))) (c .before .key .ensures))
 
--- src/rules.rt:167:17
-add-i : tie.Need-add-i Inv-loop μ-loop
-add-i c = ?
-
--- src/rules.rt:164:5
-loop-less : tie.Need-loop-less Inv-loop μ-loop
-loop-less c = ?
-
--- src/rules.rt:164:5
 loop-again : tie.Need-loop-again Inv-loop μ-loop
-loop-again c = ?
+loop-again c =
+    let k = c .before .before in
+    let l = k .before .before .before .loop in
+    (omega arith, l .inv .1 ∙ bad-skip _ 6 _ (l .i) (omega arith) (told k _ (c .enum-told .given .1)))
 
--- src/rules.rt:170:17
-enum-told-2 : tie.Need-enum-told-2 Inv-loop μ-loop
-enum-told-2 c = ?
-
--- src/rules.rt:170:17
 returns : tie.Need-returns Inv-loop μ-loop
-returns c = ?
+returns c =
+    let k = c .before .before in
+    let l = k .before .before .before .loop in
+    sym (l .inv .1 ∙ bad-here _ 6 _ (l .i) (omega arith) (told k _ (c .enum-told2 .given .1)))
 
--- src/rules.rt:173:17
-enum-told-3 : tie.Need-enum-told-3 Inv-loop μ-loop
-enum-told-3 c = ?
-
--- src/rules.rt:173:17
 returns-2 : tie.Need-returns-2 Inv-loop μ-loop
-returns-2 c = ?
+returns-2 c =
+    let k = c .before .before in
+    let l = k .before .before .before .loop in
+    sym (l .inv .1 ∙ bad-here _ 6 _ (l .i) (omega arith) (told k _ (c .enum-told3 .given .1)))
 
--- src/rules.rt:158:1
 returns-3 : tie.Need-returns-3 Inv-loop μ-loop
-returns-3 c = ?
+returns-3 c =
+    let l = c .before .loop in
+    sym (l .inv .1 ∙ bad-none _ 6 _ (l .i) (omega arith))
 
 pub check-keys-spec : {M : Type 1} → statement M
 check-keys-spec =
     tie.close
     (tie.spec
-    Inv-loop
-    μ-loop
-    loop-holds
-    sub-key-order
-    key-requires
-    key-order-requires
-    enum-told
-    add-i
-    loop-less
+    Inv-loop μ-loop
+    (λ c. (omega arith, refl))
+    (λ c. search needs)
+    key-requires key-order-requires
+    (λ c. search needs) (λ c. search needs) (λ c. search needs)
     loop-again
-    enum-told-2
+    (λ c. search needs)
     returns
-    enum-told-3
-    returns-2
-    returns-3)
+    (λ c. search needs)
+    returns-2 returns-3)

@@ -5,33 +5,33 @@ use Rattle.page.proofs.rules.header_bad.Reads as reads
 use Rattle.page.proofs.rules.header_bad.Lts as lts
 use Rattle.page.proofs.layout.id.Reads as id-reads
 use Rattle.page.proofs.layout.overflow.Reads as overflow-reads
-use Rattle.page.proofs.layout.page_type.Reads as page-type-reads
+use Rattle.page.proofs.rules.type_bad.Reads as type-bad-reads
 
--- src/rules.rt:35:8
+-- src/rules.rt:47:8
 id-requires : tie.Need-id-requires
 id-requires c κs = search needs
 
--- src/rules.rt:36:9
+-- src/rules.rt:48:9
 returns : tie.Need-returns
 returns c = ?
 
--- src/rules.rt:38:9
-page-type-requires : tie.Need-page-type-requires
-page-type-requires c κs = search needs
+-- src/rules.rt:50:8
+type-bad-requires : tie.Need-type-bad-requires
+type-bad-requires c κs = search needs
 
--- src/rules.rt:41:13
+-- src/rules.rt:51:9
 returns-2 : tie.Need-returns-2
 returns-2 c = ?
 
--- src/rules.rt:44:5
+-- src/rules.rt:53:5
 sub-result : tie.Need-sub-result
 sub-result c = search needs
 
--- src/rules.rt:44:14
+-- src/rules.rt:53:14
 overflow-requires : tie.Need-overflow-requires
 overflow-requires c κs = search needs
 
--- src/rules.rt:31:1
+-- src/rules.rt:43:1
 returns-3 : tie.Need-returns-3
 returns-3 c = ?
 
@@ -41,7 +41,7 @@ header-bad-spec =
     (tie.spec
     id-requires
     returns
-    page-type-requires
+    type-bad-requires
     returns-2
     sub-result
     overflow-requires

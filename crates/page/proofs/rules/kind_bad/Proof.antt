@@ -1,19 +1,20 @@
+-- `page::rules::kind_bad` meets its contract. Assumes nothing.
+use borrow.Author.Tests.{eq-eqb, ne-eqb}
 use Rattle.page.proofs.rules.kind_bad.Statement.{statement}
 use Rattle.page.proofs.rules.kind_bad.Tie as tie
-use Rattle.page.proofs.rules.kind_bad.Reads as reads
-use Rattle.page.proofs.rules.kind_bad.Lts as lts
 
--- src/rules.rt:67:9
 returns : tie.Need-returns
-returns c = ?
+returns c = rw (eq-eqb (c .before .args .kind) 0 (c .if1 .taken))
 
--- src/rules.rt:70:9
 returns-2 : tie.Need-returns-2
-returns-2 c = ?
+returns-2 c =
+    let k = c .before .before .args .kind in
+    rw (ne-eqb k 0 (c .before .if1 .left), eq-eqb k 1 (c .if2 .taken))
 
--- src/rules.rt:63:1
 returns-3 : tie.Need-returns-3
-returns-3 c = ?
+returns-3 c =
+    let k = c .before .before .args .kind in
+    rw (ne-eqb k 0 (c .before .if1 .left), ne-eqb k 1 (c .if2 .left))
 
 pub kind-bad-spec : {M : Type 1} → statement M
 kind-bad-spec = tie.close (tie.spec returns returns-2 returns-3)

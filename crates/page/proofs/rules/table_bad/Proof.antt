@@ -1,34 +1,26 @@
+-- `page::rules::table_bad` meets its contract. Assumes nothing.
+use mathlib.Core.Path.{sym, _∙_}
+use mathlib.Core.Bool.{true, false}
 use borrow.Author.Needs.{needs}
+use native.Mathlib.Omega.{arith}
+use Rattle.page.proofs.RuleLaws.{table-none, table-over}
 use Rattle.page.proofs.rules.table_bad.Statement.{statement}
 use Rattle.page.proofs.rules.table_bad.Tie as tie
-use Rattle.page.proofs.rules.table_bad.Reads as reads
-use Rattle.page.proofs.rules.table_bad.Lts as lts
-use Rattle.page.proofs.layout.count.Reads as count-reads
 
--- src/rules.rt:52:9
-count-requires : tie.Need-count-requires
-count-requires c κs = search needs
-
--- src/rules.rt:54:9
 returns : tie.Need-returns
-returns c = ?
+returns c =
+    let a = c .before .before .before .args in
+    sym (table-none (a .leaf) (a .empty) _ (c .before .before .before .pre) (sym (c .before .count .ensures) ∙ c .if1 .taken))
 
--- src/rules.rt:57:17
-sub-result : tie.Need-sub-result
-sub-result c = search needs
-
--- src/rules.rt:57:9
 returns-2 : tie.Need-returns-2
-returns-2 c = ?
+returns-2 c =
+    let s = c .before .before .before .before in
+    rw (c .if2 .taken) (table-over true (s .args .empty) _ _ (s .pre) (c .before .before .count .ensures) (c .before .if1 .left))
 
--- src/rules.rt:59:6
-sub-result-2 : tie.Need-sub-result-2
-sub-result-2 c = search needs
-
--- src/rules.rt:48:1
 returns-3 : tie.Need-returns-3
-returns-3 c = ?
+returns-3 c =
+    let s = c .before .before .before .before in
+    rw (c .if2 .left) (table-over false (s .args .empty) _ _ (s .pre) (c .before .before .count .ensures) (c .before .if1 .left))
 
 pub table-bad-spec : {M : Type 1} → statement M
-table-bad-spec =
-    tie.close (tie.spec count-requires returns sub-result returns-2 sub-result-2 returns-3)
+table-bad-spec = tie.close (tie.spec (λ c κs. search needs) returns (λ c. search needs) returns-2 (λ c. search needs) returns-3)

@@ -1,0 +1,54 @@
+use borrow.Author.Needs.{needs}
+use Rattle.page.proofs.search.index.Statement.{statement}
+use Rattle.page.proofs.search.index.Tie as tie
+use Rattle.page.proofs.search.index.Reads as reads
+use Rattle.page.proofs.search.index.Lts as lts
+use Rattle.page.proofs.layout.count.Reads as count-reads
+use Rattle.page.proofs.layout.page_type.Reads as page-type-reads
+use Rattle.page.proofs.rules.lent_check.Reads as lent-check-reads
+use Rattle.page.proofs.search.find.Reads as find-reads
+
+-- src/search.rt:94:11
+lent-check-requires : tie.Need-lent-check-requires
+lent-check-requires c κs = search needs
+
+-- src/search.rt:95:25
+enum-known-number : tie.Need-enum-known-number
+enum-known-number c = search needs
+
+-- src/search.rt:97:24
+enum-told : tie.Need-enum-told
+enum-told c = search needs
+
+-- src/search.rt:97:24
+page-type-requires : tie.Need-page-type-requires
+page-type-requires c κs = ?
+
+-- src/search.rt:98:39
+count-requires : tie.Need-count-requires
+count-requires c κs = ?
+
+-- src/search.rt:98:25
+find-requires : tie.Need-find-requires
+find-requires c κs = ?
+
+-- src/search.rt:91:1
+returns : tie.Need-returns
+returns c = ?
+
+-- src/search.rt:91:1
+returns-2 : tie.Need-returns-2
+returns-2 c = ?
+
+pub index-spec : {M : Type 1} → statement M
+index-spec =
+    tie.close
+    (tie.spec
+    lent-check-requires
+    enum-known-number
+    enum-told
+    page-type-requires
+    count-requires
+    find-requires
+    returns
+    returns-2)
