@@ -129,8 +129,8 @@ module _ (leaf emptyOk : Bool) (b : List ℕ) where
   pub table-good : tableBad leaf emptyOk b ≡ false → (countOf b ≡ 0 → emptyOk ≡ true) × (tableEnd leaf b ≤ length b)
   unfolding tableBad
   table-good e =
-      let both = or-neither _ _ e in
-      (λ z. not-false _ (rw (eq-eqb (countOf b) 0 z) at (both .0)), ltb-false _ _ (both .1))
+      let both = or-neither (eqb (countOf b) 0 && not emptyOk) (ltb (length b) (tableEnd leaf b)) e in
+      (λ z. not-false emptyOk (rw (eq-eqb (countOf b) 0 z) at (both .0)), ltb-false _ _ (both .1))
 
   good-table : (countOf b ≡ 0 → emptyOk ≡ true) → tableEnd leaf b ≤ length b → tableBad leaf emptyOk b ≡ false
   unfolding tableBad
@@ -159,7 +159,8 @@ module _ (leaf emptyOk : Bool) (b : List ℕ) where
       let first = unless-sound _ _ _ e in
       let table = table-good leaf emptyOk b (first .0) in
       let rest = and-sound _ _ (first .1) in
-      let good = λ (i : ℕ) (l : i < countOf b). element-good leaf b i (bad-none-at (elementBad leaf b) 5 (countOf b) 0 (rest .0) i (omega arith) (omega arith)) in
+      let good : (i : ℕ) → i < countOf b → (tableEnd leaf b ≤ keyAt leaf b i) × (valueEnd leaf b i ≤ length b) × (kindBadAt leaf b i ≡ false) =
+          λ i l. element-good leaf b i (bad-none-at (elementBad leaf b) 5 (countOf b) 0 (rest .0) i (omega arith) (omega arith)) in
       record {
         filled = table .0;
         fits = table .1;

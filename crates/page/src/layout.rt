@@ -4,7 +4,7 @@ ghost use mathlib.Core.Bool.{true, false};
 ghost use Prim.Native.Nat.{_+_, _*_, _<_, _≤_};
 ghost use lib.ListN.{length};
 ghost use Rattle.field.specs.Order.{orderOf};
-ghost use Rattle.page.specs.Layout.{idOf, typeOf, countOf, overflowOf, elementSize, elementAt, pageOf, kindOf, keySize, valueSize, keyAt, valueAt, keyOf};
+ghost use Rattle.page.specs.Layout.{idOf, typeOf, countOf, overflowOf, isLeaf, elementSize, elementAt, pageOf, kindOf, keySize, valueSize, keyAt, valueAt, keyOf};
 use field::Order;
 use field::number::u64_at;
 use field::order::compare;
@@ -33,6 +33,14 @@ pub fn page_type(b: &[u8]) -> u8
     ensures { λ r. ⌜ r ≡ typeOf (now (b .entry)) ⌝ }
 {
     b[8]
+}
+
+// Whether the page is a leaf.
+pub fn is_leaf(b: &[u8]) -> bool
+    requires { ⌜ 32 ≤ length (now b) ⌝ }
+    ensures { λ r. ⌜ r ≡ isLeaf (now (b .entry)) ⌝ }
+{
+    page_type(b) == TYPE_LEAF
 }
 
 // How many elements the block has.

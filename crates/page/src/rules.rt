@@ -13,6 +13,7 @@ use super::layout::TYPE_BRANCH;
 use super::layout::TYPE_LEAF;
 use super::layout::count;
 use super::layout::id;
+use super::layout::is_leaf;
 use super::layout::key;
 use super::layout::key_order;
 use super::layout::overflow;
@@ -235,6 +236,6 @@ pub fn lent_check(b: &[u8], p: usize) -> Verdict
     if lent_header_bad(b, p) {
         return Verdict::Breach(3, 0);
     }
-    let leaf = page_type(b) == TYPE_LEAF;
+    let leaf = is_leaf(b);
     check(b, leaf, leaf)
 }

@@ -5,14 +5,13 @@ ghost use Prim.Native.Nat.{_<_};
 ghost use Rattle.page.specs.Layout.{countOf};
 ghost use Rattle.page.specs.PageRules.{SoundBlock};
 ghost use Rattle.page.specs.Search.{placeOf, indexOf, indexPageOf, heldOf, leafOf};
-use super::layout::TYPE_LEAF;
 use super::layout::child;
 use super::layout::count;
+use super::layout::is_leaf;
 use super::layout::key_at;
 use super::layout::key_order;
 use super::layout::key_size;
 use super::layout::kind;
-use super::layout::page_type;
 use super::layout::value_size;
 use super::rules::Verdict;
 use super::rules::lent_check;
@@ -94,8 +93,7 @@ pub fn index(b: &[u8], p: usize, key: &[u8]) -> Indexed
     match lent_check(b, p) {
         Verdict::Breach(number, i) => Indexed::Refused(number, i),
         Verdict::Sound => {
-            let leaf = page_type(b) == TYPE_LEAF;
-            Indexed::At(find(b, leaf, count(b), key))
+            Indexed::At(find(b, is_leaf(b), count(b), key))
         }
     }
 }
@@ -110,7 +108,7 @@ pub fn index_page(b: &[u8], p: usize, i: usize) -> Child
             if count(b) <= i {
                 return Child::Page(0);
             }
-            if page_type(b) == TYPE_LEAF {
+            if is_leaf(b) {
                 return Child::Refused(11, 0);
             }
             Child::Page(child(b, i))
@@ -140,7 +138,7 @@ pub fn entry(b: &[u8], p: usize, i: usize) -> Held
     match lent_check(b, p) {
         Verdict::Breach(number, j) => Held::Refused(number, j),
         Verdict::Sound => {
-            if page_type(b) != TYPE_LEAF {
+            if !is_leaf(b) {
                 return Held::Refused(11, 0);
             }
             if count(b) <= i {

@@ -1,59 +1,63 @@
+-- `page::rules::check` meets its contract: rule by rule, a later one only where the earlier ones found nothing. Assumes nothing.
+use mathlib.Core.Path.{_≡_, sym, ap, _∙_}
 use borrow.Author.Needs.{needs}
+use Prim.Native.Nat.{ℕ, _-_}
+use denote.Ref.{now}
+use native.Mathlib.Omega.{arith}
+use Rattle.page.specs.Layout.{countOf}
+use Rattle.page.specs.PageRules.{firstBad, elementBad, keyBad}
+use Rattle.page.proofs.RuleLaws.{table-good, check-table, check-stops, check-goes-on, within-all}
 use Rattle.page.proofs.rules.check.Statement.{statement}
 use Rattle.page.proofs.rules.check.Tie as tie
-use Rattle.page.proofs.rules.check.Reads as reads
-use Rattle.page.proofs.rules.check.Lts as lts
-use Rattle.page.proofs.layout.count.Reads as count-reads
-use Rattle.page.proofs.rules.check_elements.Reads as check-elements-reads
-use Rattle.page.proofs.rules.check_keys.Reads as check-keys-reads
-use Rattle.page.proofs.rules.table_bad.Reads as table-bad-reads
 
--- src/rules.rt:194:8
-table-bad-requires : tie.Need-table-bad-requires
-table-bad-requires c κs = search needs
-
--- src/rules.rt:195:9
 returns : tie.Need-returns
-returns c = ?
+returns c =
+    let a = c .before .before .before .args in
+    sym (check-table (a .leaf) (a .empty) (now (a .b)) (sym (c .before .table-bad .ensures) ∙ c .if1 .taken))
 
--- src/rules.rt:197:9
-count-requires : tie.Need-count-requires
-count-requires c κs = search needs
-
--- src/rules.rt:198:11
 check-elements-requires : tie.Need-check-elements-requires
-check-elements-requires c κs = ?
+check-elements-requires c κs =
+    let a = c .before .before .before .before .args in
+    (c .count .ensures, table-good (a .leaf) (a .empty) (now (a .b)) (sym (c .before .before .table-bad .ensures) ∙ c .before .if1 .left) .1)
 
--- src/rules.rt:199:25
-enum-known-number : tie.Need-enum-known-number
-enum-known-number c = search needs
+-- rule 6 was tried over all elements
+tried : (c : tie.After-check-elements)
+    → let a = c .before .before .before .before .before .args in c .check-elements .result ≡ firstBad (elementBad (a .leaf) (now (a .b))) 5 (countOf (now (a .b))) 0
+tried c =
+    let a = c .before .before .before .before .before .args in
+    c .check-elements .ensures ∙ ap (λ (n : ℕ). firstBad (elementBad (a .leaf) (now (a .b))) 5 n 0) (c .before .count .ensures)
 
--- src/rules.rt:200:27
-enum-told : tie.Need-enum-told
-enum-told c = search needs
-
--- src/rules.rt:200:27
 check-keys-requires : tie.Need-check-keys-requires
-check-keys-requires c κs = ?
+check-keys-requires c κs =
+    let s = c .before .before .before .before .before .before .before in
+    let b = now (s .args .b) in
+    let e = c .before .before .before .count .ensures in
+    (e, table-good (s .args .leaf) (s .args .empty) b (sym (c .before .before .before .before .before .table-bad .ensures) ∙ c .before .before .before .before .if1 .left) .1,
+    λ i l. within-all (s .args .leaf) b (sym (tried (c .before .before)) ∙ c .enum-told .given .1) i (omega arith))
 
--- src/rules.rt:190:1
 returns-2 : tie.Need-returns-2
-returns-2 c = ?
+returns-2 c =
+    let k = c .before .before .before in
+    let s = k .before .before .before .before .before in
+    sym
+    (check-stops (s .args .leaf) (s .args .empty) (now (s .args .b)) (sym (k .before .before .before .table-bad .ensures) ∙ k .before .before .if1 .left) _ _
+    (sym (tried k) ∙ c .before .number .given .1))
 
--- src/rules.rt:190:1
 returns-3 : tie.Need-returns-3
-returns-3 c = ?
+returns-3 c =
+    let k = c .before .before .before in
+    let s = k .before .before .before .before .before in
+    c .check-keys .ensures
+    ∙ ap (λ (n : ℕ). firstBad (keyBad (s .args .leaf) (now (s .args .b))) 6 (n - 1) 1) (k .before .count .ensures)
+    ∙ sym
+    (check-goes-on (s .args .leaf) (s .args .empty) (now (s .args .b)) (sym (k .before .before .before .table-bad .ensures) ∙ k .before .before .if1 .left)
+    (sym (tried k) ∙ c .before .enum-told .given .1))
 
 pub check-spec : {M : Type 1} → statement M
 check-spec =
     tie.close
     (tie.spec
-    table-bad-requires
-    returns
-    count-requires
-    check-elements-requires
-    enum-known-number
-    enum-told
-    check-keys-requires
-    returns-2
-    returns-3)
+    (λ c κs. search needs) returns
+    (λ c κs. search needs) check-elements-requires
+    (λ c. search needs) (λ c. search needs)
+    check-keys-requires returns-2 returns-3)

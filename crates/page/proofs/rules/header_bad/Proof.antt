@@ -1,48 +1,43 @@
+-- `page::rules::header_bad` meets its contract. Assumes nothing.
+use Prim.Native.Nat.{_+_, _-_}
+use mathlib.Core.Path.{sym, _∙_}
 use borrow.Author.Needs.{needs}
+use borrow.Author.Tests.{eq-eqb, ne-eqb}
+use native.Mathlib.Omega.{arith}
+use denote.Ref.{now}
+use Rattle.page.specs.Layout.{idOf, overflowOf}
+use Rattle.page.specs.PageRules.{headerBad}
+use Rattle.page.proofs.RuleLaws.{leb-same}
 use Rattle.page.proofs.rules.header_bad.Statement.{statement}
 use Rattle.page.proofs.rules.header_bad.Tie as tie
-use Rattle.page.proofs.rules.header_bad.Reads as reads
-use Rattle.page.proofs.rules.header_bad.Lts as lts
-use Rattle.page.proofs.layout.id.Reads as id-reads
-use Rattle.page.proofs.layout.overflow.Reads as overflow-reads
-use Rattle.page.proofs.rules.type_bad.Reads as type-bad-reads
 
--- src/rules.rt:47:8
-id-requires : tie.Need-id-requires
-id-requires c κs = search needs
-
--- src/rules.rt:48:9
 returns : tie.Need-returns
-returns c = ?
+unfolding headerBad
+returns c =
+    let a = c .before .before .before .args in
+    rw (ne-eqb (idOf (now (a .s))) (a .q) (λ h. c .if1 .taken (c .before .id .ensures ∙ h)))
 
--- src/rules.rt:50:8
-type-bad-requires : tie.Need-type-bad-requires
-type-bad-requires c κs = search needs
-
--- src/rules.rt:51:9
 returns-2 : tie.Need-returns-2
-returns-2 c = ?
+unfolding headerBad
+returns-2 c =
+    let a = c .before .before .before .before .before .args in
+    rw (eq-eqb (idOf (now (a .s))) (a .q) (sym (c .before .before .before .id .ensures) ∙ c .before .before .if1 .left), sym (c .before .type-bad .ensures) ∙ c .if2 .taken)
 
--- src/rules.rt:53:5
-sub-result : tie.Need-sub-result
-sub-result c = search needs
-
--- src/rules.rt:53:14
-overflow-requires : tie.Need-overflow-requires
-overflow-requires c κs = search needs
-
--- src/rules.rt:43:1
 returns-3 : tie.Need-returns-3
-returns-3 c = ?
+unfolding headerBad
+returns-3 c =
+    let s = c .before .before .before .before .before .before in
+    let a = s .args in
+    let o = overflowOf (now (a .s)) in
+    rw
+    (c .overflow .ensures, eq-eqb (idOf (now (a .s))) (a .q) (sym (c .before .before .before .before .id .ensures) ∙ c .before .before .before .if1 .left),
+    sym (c .before .before .type-bad .ensures) ∙ c .before .if2 .left)
+    (leb-same (a .n - a .q) o (a .n) (a .q + o) (λ h. omega arith) (λ h. omega arith))
 
 pub header-bad-spec : {M : Type 1} → statement M
 header-bad-spec =
     tie.close
     (tie.spec
-    id-requires
-    returns
-    type-bad-requires
-    returns-2
-    sub-result
-    overflow-requires
-    returns-3)
+    (λ c κs. search needs) returns
+    (λ c κs. search needs) returns-2
+    (λ c. search needs) (λ c κs. search needs) returns-3)

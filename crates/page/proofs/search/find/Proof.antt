@@ -1,98 +1,94 @@
+-- `page::search::find` meets its contract. The loop's invariant: the keys before `lo` are lower than the one looked for, and those from `hi` on higher.
+-- The measure is what lies between the two. Assumes nothing.
+use Prim.Native.Nat.{ℕ, _+_, _-_, _/_, _≤_, _<_}
+use mathlib.Core.Path.{_≡_, sym, _∙_}
+use mathlib.Core.Bool.{true}
+use borrow.Author.Needs.{needs}
+use native.Mathlib.Omega.{arith}
+use denote.Ref.{now}
+use Rattle.field.specs.declared.order.Order.the-variants.{Lower, Higher}
+use Rattle.field.specs.Order.{orderOf}
+use Rattle.page.specs.Layout.{keyOf}
+use Rattle.page.proofs.LayoutLaws.{element-room}
+use Rattle.page.proofs.SearchLaws.{index-found, index-missing, before-equal, up-to-lower, from-higher-on}
 use Rattle.page.proofs.search.find.Statement.{statement}
 use Rattle.page.proofs.search.find.Tie as tie
-use Rattle.page.proofs.search.find.Reads as reads
-use Rattle.page.proofs.search.find.Lts as lts
-use Rattle.page.proofs.layout.key_order.Reads as key-order-reads
 
 abbrev Inv-loop : tie.InvT-loop
-Inv-loop b leaf n key lo₀ hi₀ lo hi = ?
+Inv-loop b leaf n key lo₀ hi₀ lo hi =
+    (lo ≤ hi)
+    × (hi ≤ n)
+    × ((k : ℕ) → k < lo → orderOf (keyOf leaf b k) key ≡ Lower)
+    × ((k : ℕ) → hi ≤ k → k < n → orderOf (keyOf leaf b k) key ≡ Higher)
 
 abbrev μ-loop : tie.MeasureT-loop
-μ-loop b leaf n key lo₀ hi₀ lo hi = ?
+μ-loop b leaf n key lo₀ hi₀ lo hi = hi - lo
 
--- src/search.rt:61:5
 loop-holds : tie.Need-loop-holds Inv-loop μ-loop
-loop-holds c = ?
+loop-holds c = (omega arith, omega arith, λ k l. absurd (omega arith), λ k l m. absurd (omega arith))
 
--- src/search.rt:62:25
-sub-mid : tie.Need-sub-mid Inv-loop μ-loop
-sub-mid c = ?
-
--- src/search.rt:62:19
-add-mid : tie.Need-add-mid Inv-loop μ-loop
-add-mid c = ?
-
--- src/search.rt:63:15
 key-order-requires : tie.Need-key-order-requires Inv-loop μ-loop
-key-order-requires c κs = ?
+key-order-requires c κs =
+    let s = c .before .before .before .before in
+    let l = c .before .loop in
+    let mid = l .lo + (l .hi - l .lo) / 2 in
+    let e = s .pre .0 in
+    let w = s .pre .1 .within mid (omega arith) in
+    (element-room (s .args .leaf) (now (s .args .b)) mid (omega arith) (s .pre .1 .fits), omega arith)
 
--- src/search.rt:65:22
-enum-told : tie.Need-enum-told Inv-loop μ-loop
-enum-told c = ?
-
--- src/search.rt:65:22
-add-lo : tie.Need-add-lo Inv-loop μ-loop
-add-lo c = ?
-
--- src/search.rt:61:5
-loop-less : tie.Need-loop-less Inv-loop μ-loop
-loop-less c = ?
-
--- src/search.rt:61:5
 loop-again : tie.Need-loop-again Inv-loop μ-loop
-loop-again c = ?
+loop-again c =
+    let s = c .before .before .before .before .before .before .before in
+    let l = c .before .before .before .before .loop in
+    let e = s .pre .0 in
+    let lower = up-to-lower (s .args .leaf) true (now (s .args .b)) (s .pre .1) (now (s .args .key)) (l .lo + (l .hi - l .lo) / 2) (omega arith) (sym (c .before .before .key-order .ensures) ∙ c .enum-told .given .1) in
+    (omega arith, omega arith, lower, l .inv .3)
 
--- src/search.rt:68:17
-enum-told-2 : tie.Need-enum-told-2 Inv-loop μ-loop
-enum-told-2 c = ?
-
--- src/search.rt:68:17
 returns : tie.Need-returns Inv-loop μ-loop
-returns c = ?
+returns c =
+    let s = c .before .before .before .before .before .before .before in
+    let a = s .args in
+    let l = c .before .before .before .before .loop in
+    let mid = l .lo + (l .hi - l .lo) / 2 in
+    let e = s .pre .0 in
+    let same = sym (c .before .before .key-order .ensures) ∙ c .enum-told2 .given .1 in
+    sym (index-found (a .leaf) (now (a .b)) (now (a .key)) (a .n) e mid (before-equal (a .leaf) true (now (a .b)) (s .pre .1) (now (a .key)) mid (omega arith) same) (omega arith) same)
 
--- src/search.rt:74:17
-enum-told-3 : tie.Need-enum-told-3 Inv-loop μ-loop
-enum-told-3 c = ?
-
--- src/search.rt:61:5
-loop-less-2 : tie.Need-loop-less-2 Inv-loop μ-loop
-loop-less-2 c = ?
-
--- src/search.rt:61:5
 loop-again-2 : tie.Need-loop-again-2 Inv-loop μ-loop
-loop-again-2 c = ?
+loop-again-2 c =
+    let s = c .before .before .before .before .before .before .before in
+    let l = c .before .before .before .before .loop in
+    let e = s .pre .0 in
+    let higher = from-higher-on (s .args .leaf) true (now (s .args .b)) (s .pre .1) (now (s .args .key)) (l .lo + (l .hi - l .lo) / 2) (omega arith) (sym (c .before .before .key-order .ensures) ∙ c .enum-told3 .given .1) in
+    (omega arith, omega arith, l .inv .2, λ k q m. higher k q (omega arith))
 
--- src/search.rt:79:9
 returns-2 : tie.Need-returns-2 Inv-loop μ-loop
-returns-2 c = ?
+returns-2 c =
+    let s = c .before .before .before .before .before in
+    let a = s .args in
+    let l = c .before .before .loop in
+    sym (index-missing (a .leaf) (now (a .b)) (now (a .key)) (a .n) (s .pre .0) 0 (λ k q. absurd (omega arith)) (omega arith) (λ k q m. l .inv .3 k (omega arith) m))
 
--- src/search.rt:85:13
-sub-t13 : tie.Need-sub-t13 Inv-loop μ-loop
-sub-t13 c = ?
-
--- src/search.rt:55:1
 returns-3 : tie.Need-returns-3 Inv-loop μ-loop
-returns-3 c = ?
+returns-3 c =
+    let s = c .before .before .before .before .before in
+    let a = s .args in
+    let l = c .before .before .loop in
+    sym (index-missing (a .leaf) (now (a .b)) (now (a .key)) (a .n) (s .pre .0) (l .lo) (l .inv .2) (omega arith) (λ k q m. l .inv .3 k (omega arith) m))
 
 pub find-spec : {M : Type 1} → statement M
 find-spec =
     tie.close
     (tie.spec
-    Inv-loop
-    μ-loop
+    Inv-loop μ-loop
     loop-holds
-    sub-mid
-    add-mid
+    (λ c. search needs) (λ c. search needs)
     key-order-requires
-    enum-told
-    add-lo
-    loop-less
+    (λ c. search needs) (λ c. search needs) (λ c. search needs)
     loop-again
-    enum-told-2
+    (λ c. search needs)
     returns
-    enum-told-3
-    loop-less-2
-    loop-again-2
-    returns-2
-    sub-t13
+    (λ c. search needs) (λ c. search needs)
+    loop-again-2 returns-2
+    (λ c. search needs)
     returns-3)

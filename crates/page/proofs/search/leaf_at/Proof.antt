@@ -1,49 +1,34 @@
+-- `page::search::leaf_at` meets its contract. Assumes nothing.
+use mathlib.Core.Path.{_≡_, ap, _∙_}
+use mathlib.Core.Bool.{true}
 use borrow.Author.Needs.{needs}
+use native.Mathlib.Omega.{arith}
+use Prim.Native.Nat.{_≤_}
+use lib.ListN.{length}
+use denote.Ref.{now}
+use Rattle.page.specs.Layout.{valueEnd}
+use Rattle.page.proofs.LayoutLaws.{element-room}
 use Rattle.page.proofs.search.leaf_at.Statement.{statement}
 use Rattle.page.proofs.search.leaf_at.Tie as tie
-use Rattle.page.proofs.search.leaf_at.Reads as reads
-use Rattle.page.proofs.search.leaf_at.Lts as lts
-use Rattle.page.proofs.layout.key_at.Reads as key-at-reads
-use Rattle.page.proofs.layout.key_size.Reads as key-size-reads
-use Rattle.page.proofs.layout.kind.Reads as kind-reads
-use Rattle.page.proofs.layout.value_size.Reads as value-size-reads
 
--- src/search.rt:126:9
+ends : (s : tie.Start) → valueEnd true (now (s .args .b)) (s .args .i) ≤ length (now (s .args .b))
+ends s = s .pre .1 .within (s .args .i) (s .pre .0)
+
 key-at-requires : tie.Need-key-at-requires
-key-at-requires c κs = ?
+key-at-requires c κs =
+    let s = c .before in
+    let e = ends s in
+    (element-room true (now (s .args .b)) (s .args .i) (s .pre .0) (s .pre .1 .fits), omega arith)
 
--- src/search.rt:127:26
-key-size-requires : tie.Need-key-size-requires
-key-size-requires c κs = search needs
-
--- src/search.rt:127:18
 add-middle : tie.Need-add-middle
-add-middle c = ?
+add-middle c = let e = ends (c .before .before .before) in omega arith
 
--- src/search.rt:129:15
-kind-requires : tie.Need-kind-requires
-kind-requires c κs = search needs
-
--- src/search.rt:132:23
-value-size-requires : tie.Need-value-size-requires
-value-size-requires c κs = search needs
-
--- src/search.rt:132:14
 add-t7 : tie.Need-add-t7
-add-t7 c = ?
+add-t7 c = let e = ends (c .before .before .before .before .before) in omega arith
 
--- src/search.rt:122:1
 returns : tie.Need-returns
-returns c = ?
+returns c = rw (c .before .kind .ensures, c .before .before .before .key-at .ensures, c .before .before .key-size .ensures, c .value-size .ensures)
 
 pub leaf-at-spec : {M : Type 1} → statement M
 leaf-at-spec =
-    tie.close
-    (tie.spec
-    key-at-requires
-    key-size-requires
-    add-middle
-    kind-requires
-    value-size-requires
-    add-t7
-    returns)
+    tie.close (tie.spec key-at-requires (λ c κs. search needs) add-middle (λ c κs. search needs) (λ c κs. search needs) add-t7 returns)
