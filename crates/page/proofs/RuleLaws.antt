@@ -4,7 +4,7 @@
 use mathlib.Core.Path.{_≡_, refl, sym, ap, _∙_}
 use mathlib.Core.Bool.{Bool, true, false, not, _&&_, _||_, and-false}
 use mathlib.Core.List.{List}
-use mathlib.Core.Logic.{_⊎_, inl, inr, ⊎-elim, _↔_}
+use mathlib.Core.Logic.{_⊎_, ⊎-elim, _↔_}
 use Prim.Native.Nat.{ℕ, zero, suc, _+_, _-_, _*_, _/_, _%_, _≤_, _<_}
 use native.Mathlib.Nat.{eq-or-lt-of-le, one-mul, le-div-iff-mul-le, div-add-mod', div-eq-of-eq-mul-left}
 use native.Mathlib.Omega.{arith}
@@ -160,7 +160,7 @@ module _ (leaf emptyOk : Bool) (b : List ℕ) where
       let table = table-good leaf emptyOk b (first .0) in
       let rest = and-sound _ _ (first .1) in
       let good : (i : ℕ) → i < countOf b → (tableEnd leaf b ≤ keyAt leaf b i) × (valueEnd leaf b i ≤ length b) × (kindBadAt leaf b i ≡ false) =
-          λ i l. element-good leaf b i (bad-none-at (elementBad leaf b) 5 (countOf b) 0 (rest .0) i (omega arith) (omega arith)) in
+      λ i l. element-good leaf b i (bad-none-at (elementBad leaf b) 5 (countOf b) 0 (rest .0) i (omega arith) (omega arith)) in
       record {
         filled = table .0;
         fits = table .1;
@@ -176,9 +176,10 @@ module _ (leaf emptyOk : Bool) (b : List ℕ) where
   pub sound-check : SoundBlock leaf emptyOk b → checkOf leaf emptyOk b ≡ Sound
   unfolding checkOf keyBad
   sound-check s =
-      rw
-      (good-table leaf emptyOk b (s .filled) (s .fits),
-      none-bad (elementBad leaf b) 5 (countOf b) 0 (λ j l m. good-element leaf b j (s .after j (omega arith)) (s .within j (omega arith)) (s .kinds j (omega arith))))
+      rw (
+        good-table leaf emptyOk b (s .filled) (s .fits),
+        none-bad (elementBad leaf b) 5 (countOf b) 0 (λ j l m. good-element leaf b j (s .after j (omega arith)) (s .within j (omega arith)) (s .kinds j (omega arith))),
+      )
       (none-bad (keyBad leaf b) 6 (countOf b - 1) 1 (λ j l m. ap (λ (o : Order). not (isLower o)) (before j l (omega arith))))
     where
       before : (j : ℕ) → 1 ≤ j → j < countOf b → orderOf (keyOf leaf b (j - 1)) (keyOf leaf b j) ≡ Lower
@@ -240,6 +241,7 @@ module _ (P : ℕ) (b : List ℕ) where
             let n = pages-least in
             let f : o + 1 ≡ length b / P = omega arith in
             rw f (omega (arith, div-add-mod' (length b) P, g .whole))
+
         back : (o + 1) * P ≡ length b → o ≡ length b / P - 1
         back e =
             let s = g .size in

@@ -1,18 +1,16 @@
 -- A scan of a sound block stops where a binary search does, and what it answers, in words.
 -- Assumes nothing.
-use mathlib.Core.Path.{_≡_, refl, sym, ap, _∙_}
+use mathlib.Core.Path.{_≡_, sym, ap, _∙_}
 use mathlib.Core.Bool.{Bool, true, false}
 use mathlib.Core.List.{List}
-use mathlib.Core.Logic.{_⊎_, inl, inr, ⊎-elim}
+use mathlib.Core.Logic.{_⊎_, ⊎-elim}
 use Prim.Native.Nat.{ℕ, zero, suc, _+_, _-_, _≤_, _<_}
 use native.Mathlib.Nat.{sub-zero, eq-or-lt-of-le}
 use native.Mathlib.Numerals.{add-one}
 use native.Mathlib.Omega.{arith}
-use Rattle.field.specs.declared.order.Order.{Order}
 use Rattle.field.specs.declared.order.Order.the-variants.{Lower, Equal, Higher}
 use Rattle.field.specs.Order.{orderOf}
-use Rattle.field.proofs.OrderLaws.{order-refl, order-equal, lower-trans, lower-iff}
-use Rattle.page.specs.declared.search.Place.{Place}
+use Rattle.field.proofs.OrderLaws.{order-equal, lower-trans, lower-iff}
 use Rattle.page.specs.Layout.{countOf, keyOf}
 use Rattle.page.specs.PageRules.{SoundBlock}
 use Rattle.page.specs.Search.{scanFrom, placeOf}

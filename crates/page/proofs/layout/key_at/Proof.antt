@@ -1,5 +1,4 @@
 -- `page::layout::key_at` meets its contract, for either kind of block. Assumes nothing.
-use borrow.Author.Needs.{needs}
 use native.Mathlib.Omega.{arith}
 use Rattle.page.proofs.layout.key_at.Statement.{statement}
 use Rattle.page.proofs.layout.key_at.Tie as tie

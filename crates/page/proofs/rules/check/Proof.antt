@@ -31,9 +31,11 @@ check-keys-requires : tie.Need-check-keys-requires
 check-keys-requires c κs =
     let s = c .before .before .before .before .before .before .before in
     let b = now (s .args .b) in
-    let e = c .before .before .before .count .ensures in
-    (e, table-good (s .args .leaf) (s .args .empty) b (sym (c .before .before .before .before .before .table-bad .ensures) ∙ c .before .before .before .before .if1 .left) .1,
-    λ i l. within-all (s .args .leaf) b (sym (tried (c .before .before)) ∙ c .enum-told .given .1) i (omega arith))
+    let e = c .before .before .before .count .ensures in (
+      e,
+      table-good (s .args .leaf) (s .args .empty) b (sym (c .before .before .before .before .before .table-bad .ensures) ∙ c .before .before .before .before .if1 .left) .1,
+      λ i l. within-all (s .args .leaf) b (sym (tried (c .before .before)) ∙ c .enum-told .given .1) i (omega arith),
+    )
 
 returns-2 : tie.Need-returns-2
 returns-2 c =

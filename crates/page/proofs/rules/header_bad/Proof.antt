@@ -29,9 +29,11 @@ returns-3 c =
     let s = c .before .before .before .before .before .before in
     let a = s .args in
     let o = overflowOf (now (a .s)) in
-    rw
-    (c .overflow .ensures, eq-eqb (idOf (now (a .s))) (a .q) (sym (c .before .before .before .before .id .ensures) ∙ c .before .before .before .if1 .left),
-    sym (c .before .before .type-bad .ensures) ∙ c .before .if2 .left)
+    rw (
+      c .overflow .ensures,
+      eq-eqb (idOf (now (a .s))) (a .q) (sym (c .before .before .before .before .id .ensures) ∙ c .before .before .before .if1 .left),
+      sym (c .before .before .type-bad .ensures) ∙ c .before .if2 .left,
+    )
     (leb-same (a .n - a .q) o (a .n) (a .q + o) (λ h. omega arith) (λ h. omega arith))
 
 pub header-bad-spec : {M : Type 1} → statement M

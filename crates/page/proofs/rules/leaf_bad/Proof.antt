@@ -1,8 +1,7 @@
 -- `page::rules::leaf_bad` meets its contract. Assumes nothing.
 use mathlib.Core.Path.{refl, sym, _∙_, ap}
-use mathlib.Core.Bool.{Bool, true, false, _||_}
+use mathlib.Core.Bool.{true, false}
 use borrow.Author.Needs.{needs}
-use native.Mathlib.Omega.{arith}
 use denote.Ref.{now}
 use Rattle.page.specs.Layout.{kindOf}
 use Rattle.page.specs.PageRules.{kindBadAt, kindBad}

@@ -1,8 +1,7 @@
 -- `page::rules::lent_header_bad` meets its contract: where the length is a whole number of pages, the overflow is one less. Assumes nothing.
-use mathlib.Core.Path.{_≡_, sym, ap, _∙_}
+use mathlib.Core.Path.{sym, ap, _∙_}
 use mathlib.Core.Bool.{Bool, not, _||_}
 use borrow.Author.Tests.{not-true, not-false}
-use borrow.Author.Needs.{needs}
 use native.Mathlib.Omega.{arith}
 use denote.Ref.{now}
 use Rattle.page.specs.Layout.{isBranch, isLeaf}

@@ -2,7 +2,6 @@
 use mathlib.Core.Path.{sym, _∙_}
 use mathlib.Core.Bool.{true, false}
 use borrow.Author.Needs.{needs}
-use native.Mathlib.Omega.{arith}
 use Rattle.page.proofs.RuleLaws.{table-none, table-over}
 use Rattle.page.proofs.rules.table_bad.Statement.{statement}
 use Rattle.page.proofs.rules.table_bad.Tie as tie

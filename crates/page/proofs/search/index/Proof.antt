@@ -1,54 +1,39 @@
+-- `page::search::index` meets its contract: a block that the check finds sound is searched. Assumes nothing.
+use mathlib.Core.Path.{_≡_, sym, _∙_}
 use borrow.Author.Needs.{needs}
+use denote.Ref.{now}
+use Rattle.page.specs.declared.rules.Verdict.the-variants.{Sound}
+use Rattle.page.specs.PageRules.{lentCheckOf}
+use Rattle.page.specs.Search.{indexOf}
+use Rattle.page.proofs.RuleLaws.{lent-sound}
 use Rattle.page.proofs.search.index.Statement.{statement}
 use Rattle.page.proofs.search.index.Tie as tie
-use Rattle.page.proofs.search.index.Reads as reads
-use Rattle.page.proofs.search.index.Lts as lts
-use Rattle.page.proofs.layout.count.Reads as count-reads
-use Rattle.page.proofs.layout.is_leaf.Reads as is-leaf-reads
-use Rattle.page.proofs.rules.lent_check.Reads as lent-check-reads
-use Rattle.page.proofs.search.find.Reads as find-reads
 
--- src/search.rt:93:11
-lent-check-requires : tie.Need-lent-check-requires
-lent-check-requires c κs = search needs
+passed : (c : tie.After-enum-told) → lentCheckOf (c .before .before .before .before .before .args .p) (now (c .before .before .before .before .before .args .b)) ≡ Sound
+passed c = sym (c .before .before .lent-check .ensures) ∙ c .enum-told .given .1
 
--- src/search.rt:94:25
-enum-known-number : tie.Need-enum-known-number
-enum-known-number c = search needs
-
--- src/search.rt:96:33
-enum-told : tie.Need-enum-told
-enum-told c = search needs
-
--- src/search.rt:96:33
 is-leaf-requires : tie.Need-is-leaf-requires
-is-leaf-requires c κs = ?
+is-leaf-requires c κs = let s = c .before .before .before .before .before in lent-sound (s .args .p) (now (s .args .b)) (passed c) .0
 
--- src/search.rt:96:45
 count-requires : tie.Need-count-requires
-count-requires c κs = ?
+count-requires c κs = let s = c .before .before .before .before .before .before in lent-sound (s .args .p) (now (s .args .b)) (passed (c .before)) .0
 
--- src/search.rt:96:25
 find-requires : tie.Need-find-requires
-find-requires c κs = ?
+find-requires c κs =
+    let s = c .before .before .before .before .before .before .before in
+    (c .count .ensures, rw (c .before .is-leaf .ensures) (lent-sound (s .args .p) (now (s .args .b)) (passed (c .before .before)) .1))
 
--- src/search.rt:90:1
 returns : tie.Need-returns
-returns c = ?
+unfolding indexOf
+returns c = rw (sym (c .before .before .before .lent-check .ensures) ∙ c .before .number .given .1)
 
--- src/search.rt:90:1
 returns-2 : tie.Need-returns-2
-returns-2 c = ?
+unfolding indexOf
+returns-2 c = rw (passed (c .before .before .before), ← c .before .before .is-leaf .ensures, c .find .ensures)
 
 pub index-spec : {M : Type 1} → statement M
 index-spec =
     tie.close
     (tie.spec
-    lent-check-requires
-    enum-known-number
-    enum-told
-    is-leaf-requires
-    count-requires
-    find-requires
-    returns
-    returns-2)
+    (λ c κs. search needs) (λ c. search needs) (λ c. search needs)
+    is-leaf-requires count-requires find-requires returns returns-2)
