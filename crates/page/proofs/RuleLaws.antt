@@ -4,21 +4,21 @@
 use mathlib.Core.Path.{_≡_, refl, sym, ap, _∙_}
 use mathlib.Core.Bool.{Bool, true, false, not, _&&_, _||_, and-false}
 use mathlib.Core.List.{List}
-use mathlib.Core.Logic.{_⊎_, ⊎-elim, _↔_}
-use Prim.Native.Nat.{ℕ, zero, suc, _+_, _-_, _*_, _/_, _%_, _≤_, _<_}
-use native.Mathlib.Nat.{eq-or-lt-of-le, one-mul, le-div-iff-mul-le, div-add-mod', div-eq-of-eq-mul-left}
+use mathlib.Core.Logic.{_⊎_, inl, inr, ⊎-elim, _↔_}
+use Prim.Native.Nat.{ℕ, zero, suc, _+_, _-_, _*_, _/_, _≤_, _<_}
+use native.Mathlib.Nat.{eq-or-lt-of-le}
 use native.Mathlib.Omega.{arith}
-use lib.Dec.{ltb, leb, eqb}
+use lib.Dec.{ltb, eqb}
 use lib.ListN.{length}
-use borrow.Author.Tests.{lt-ltb, le-ltb, ltb-true, ltb-false, le-leb, lt-leb, leb-true, leb-false, eq-eqb, ne-eqb, eqb-true, eqb-false, not-false}
+use borrow.Author.Tests.{le-ltb, ltb-false, lt-leb, leb-false, eq-eqb, ne-eqb, eqb-true, not-false}
 use Rattle.field.specs.declared.order.Order.{Order}
 use Rattle.field.specs.declared.order.Order.the-variants.{Lower, Equal, Higher}
 use Rattle.field.specs.Order.{orderOf}
 use Rattle.page.specs.declared.rules.Verdict.{Verdict}
 use Rattle.page.specs.declared.rules.Verdict.the-variants.{Sound, Breach}
-use Rattle.page.specs.Layout.{countOf, elementSize, elementAt, posOf, keySize, valueSize, tableEnd, isLeaf, keyAt, valueAt, valueEnd, keyOf}
-use Rattle.page.specs.PageRules.{andThen, unless, firstBad, outside, tableBad, elementBad, keyBad, kindBadAt, isLower, checkOf, lengthBad, lentHeaderBad, lentCheckOf, SoundBlock}
-use Rattle.field.specs.Sizes.{sizeAllowed}
+use Rattle.page.specs.Layout.{idOf, overflowOf, isBranch, countOf, elementSize, elementAt, posOf, keySize, valueSize, tableEnd, isLeaf, keyAt, valueAt, valueEnd, keyOf}
+use Rattle.page.specs.PageRules.{headerBad, andThen, unless, firstBad, outside, tableBad, elementBad, keyBad, kindBad, kindBadAt, isLower, checkOf, SoundBlock}
+use Rattle.page.proofs.TestLaws.{ltb-same, and-both, or-neither}
 
 -- ---- the first bad element, from i on and below n
 module _ (bad : ℕ → Bool) (number n i : ℕ) where
@@ -51,28 +51,6 @@ bad-none-at bad number (suc k) i e j l m = go (bad-none-at bad number k (i + 1))
 
 -- ---- what the code of each rule tests
 
--- two tests that hold together
-pub ltb-same : (a b c d : ℕ) → (a < b → c < d) → (b ≤ a → d ≤ c) → ltb a b ≡ ltb c d
-ltb-same a b c d p q = go (ltb a b) refl
-  where
-    go : (t : Bool) → ltb a b ≡ t → t ≡ ltb c d
-    go true e = sym (lt-ltb c d (p (ltb-true a b e)))
-    go false e = sym (le-ltb c d (q (ltb-false a b e)))
-
-pub leb-same : (a b c d : ℕ) → (a ≤ b → c ≤ d) → (b < a → d < c) → leb a b ≡ leb c d
-leb-same a b c d p q = go (leb a b) refl
-  where
-    go : (t : Bool) → leb a b ≡ t → t ≡ leb c d
-    go true e = sym (le-leb c d (p (leb-true a b e)))
-    go false e = sym (lt-leb c d (q (leb-false a b e)))
-
-pub eqb-same : (a b c d : ℕ) → (a ≡ b → c ≡ d) → (c ≡ d → a ≡ b) → eqb a b ≡ eqb c d
-eqb-same a b c d p q = go (eqb a b) refl
-  where
-    go : (t : Bool) → eqb a b ≡ t → t ≡ eqb c d
-    go true e = sym (eq-eqb c d (p (eqb-true a b e)))
-    go false e = sym (ne-eqb c d (λ f. eqb-false a b e (q f)))
-
 -- rule 5
 table-least : (leaf : Bool) (b : List ℕ) → 32 ≤ length b → countOf b ≡ 0 → tableEnd leaf b ≤ length b
 table-least false b h e = omega arith
@@ -102,20 +80,42 @@ pub key-test : (leaf : Bool) (b : List ℕ) (i : ℕ) (o : Order) → o ≡ orde
 unfolding keyBad
 key-test leaf b i o h = ap (λ (x : Order). not (isLower x)) (sym h)
 
--- ---- a test that fails, taken apart
-and-both : (s t : Bool) → (s && t) ≡ true → (s ≡ true) × (t ≡ true)
-and-both true t e = (refl, e)
-and-both false t e = absurd (let z : _≡_ {A = ℕ} 0 1 = cc in omega arith)
+-- ---- rule 4 in words
+module _ (N q : ℕ) (s : List ℕ) where
+  pub header-good : headerBad N q s ≡ false → (idOf s ≡ q) × ((isBranch s || isLeaf s) ≡ true) × (q + overflowOf s < N)
+  unfolding headerBad
+  header-good e =
+      let both = or-neither _ _ e in
+      let rest = or-neither _ _ (both .1) in
+      (eqb-true _ _ (not-false _ (both .0)), not-false _ (rest .0), leb-false _ _ (rest .1))
 
-or-neither : (s t : Bool) → (s || t) ≡ false → (s ≡ false) × (t ≡ false)
-or-neither true t e = absurd (let z : _≡_ {A = ℕ} 0 1 = cc in omega arith)
-or-neither false t e = (refl, e)
+  good-header : idOf s ≡ q → (isBranch s || isLeaf s) ≡ true → q + overflowOf s < N → headerBad N q s ≡ false
+  unfolding headerBad
+  good-header i t h = rw (eq-eqb (idOf s) q i, t, lt-leb N (q + overflowOf s) h)
 
-and-sound : (v w : Verdict) → andThen v w ≡ Sound → (v ≡ Sound) × (w ≡ Sound)
+  pub header-iff : (headerBad N q s ≡ false) ↔ ((idOf s ≡ q) × ((isBranch s || isLeaf s) ≡ true) × (q + overflowOf s < N))
+  header-iff = (header-good, λ h. good-header (h .0) (h .1) (h .2))
+
+-- ---- the kinds of rule 6 in words
+pub kind-iff : (kind size : ℕ) → (kindBad kind size ≡ false) ↔ ((kind ≡ 0) ⊎ ((kind ≡ 1) × (size ≡ 16)))
+kind-iff kind size = (λ e. there (eqb kind 0) refl e, ⊎-elim (λ e. rw (eq-eqb kind 0 e)) (λ h. back (h .0) (h .1)))
+  where
+    there : (t : Bool) → eqb kind 0 ≡ t → kindBad kind size ≡ false → (kind ≡ 0) ⊎ ((kind ≡ 1) × (size ≡ 16))
+    there true z e = inl (eqb-true kind 0 z)
+    there false z e =
+        let f : (eqb kind 1 && eqb size 16) ≡ true = not-false _ (rw z at e) in
+        let both = and-both _ _ f in
+        inr (eqb-true kind 1 (both .0), eqb-true size 16 (both .1))
+
+    back : kind ≡ 1 → size ≡ 16 → kindBad kind size ≡ false
+    back k s = rw (k, s)
+
+-- ---- verdicts taken apart
+pub and-sound : (v w : Verdict) → andThen v w ≡ Sound → (v ≡ Sound) × (w ≡ Sound)
 and-sound Sound w e = (refl, e)
 and-sound (Breach r i) w e = absurd (let z : _≡_ {A = ℕ} 0 1 = cc in omega arith)
 
-unless-sound : (bad : Bool) (number : ℕ) (v : Verdict) → unless bad number v ≡ Sound → (bad ≡ false) × (v ≡ Sound)
+pub unless-sound : (bad : Bool) (number : ℕ) (v : Verdict) → unless bad number v ≡ Sound → (bad ≡ false) × (v ≡ Sound)
 unless-sound true number v e = absurd (let z : _≡_ {A = ℕ} 0 1 = cc in omega arith)
 unless-sound false number v e = (refl, e)
 
@@ -209,72 +209,3 @@ module _ (leaf emptyOk : Bool) (b : List ℕ) where
 
 pub within-all : (leaf : Bool) (b : List ℕ) → firstBad (elementBad leaf b) 5 (countOf b) 0 ≡ Sound → (i : ℕ) → i < countOf b → valueAt leaf b i ≤ length b
 within-all leaf b e i l = let g = element-good leaf b i (bad-none-at (elementBad leaf b) 5 (countOf b) 0 e i (omega arith) (omega arith)) in omega arith
-
--- ---- a lent block
-pub record LengthGood (P : ℕ) (b : List ℕ) : Type 0 where
-  pub size : 1024 ≤ P
-  pub least : P ≤ length b
-  pub whole : length b % P ≡ 0
-
-pub size-least : (P : ℕ) → sizeAllowed P ≡ true → 1024 ≤ P
-size-least P e = leb-true 1024 P (and-both _ _ e .0)
-
-module _ (P : ℕ) (b : List ℕ) where
-  pub length-good : lengthBad P b ≡ false → LengthGood P b
-  length-good e =
-      let both = and-both _ _ (not-false _ e) in
-      let rest = and-both _ _ (both .1) in
-      record { size = size-least P (both .0); least = leb-true _ _ (rest .0); whole = eqb-true _ _ (rest .1) }
-
-  module _ (g : LengthGood P b) where
-    pub pages-least : 1 ≤ length b / P
-    pages-least = le-div-iff-mul-le positive .1 (rw one-mul (g .least))
-      where
-        positive : 0 < P
-        positive = let s = g .size in omega arith
-
-    pub overflow-test : (o : ℕ) → eqb o (length b / P - 1) ≡ eqb ((o + 1) * P) (length b)
-    overflow-test o = eqb-same o (length b / P - 1) ((o + 1) * P) (length b) there back
-      where
-        there : o ≡ length b / P - 1 → (o + 1) * P ≡ length b
-        there e =
-            let n = pages-least in
-            let f : o + 1 ≡ length b / P = omega arith in
-            rw f (omega (arith, div-add-mod' (length b) P, g .whole))
-
-        back : (o + 1) * P ≡ length b → o ≡ length b / P - 1
-        back e =
-            let s = g .size in
-            let f : length b / P ≡ o + 1 = div-eq-of-eq-mul-left (omega arith) (sym e) in
-            omega arith
-
-  pub lent-length : lengthBad P b ≡ true → lentCheckOf P b ≡ Breach 1 0
-  unfolding lentCheckOf
-  lent-length e = rw e
-
-  pub lent-header : lengthBad P b ≡ false → lentHeaderBad P b ≡ true → lentCheckOf P b ≡ Breach 3 0
-  unfolding lentCheckOf
-  lent-header e f = rw (e, f)
-
-  pub lent-rest : lengthBad P b ≡ false → lentHeaderBad P b ≡ false → lentCheckOf P b ≡ checkOf (isLeaf b) (isLeaf b) b
-  unfolding lentCheckOf
-  lent-rest e f = rw (e, f)
-
-  pub lent-iff : (lentCheckOf P b ≡ Sound) ↔ ((lengthBad P b ≡ false) × (lentHeaderBad P b ≡ false) × SoundBlock (isLeaf b) (isLeaf b) b)
-  unfolding lentCheckOf
-  lent-iff = (
-    λ e.
-        let first = unless-sound _ _ _ e in
-        let then = unless-sound _ _ _ (first .1) in
-        (first .0, then .0, check-sound (isLeaf b) (isLeaf b) b (then .1)),
-    λ h. rw (h .0, h .1) (sound-check (isLeaf b) (isLeaf b) b (h .2)),
-  )
-
-  -- what the calls on a lent block go on with
-  pub lent-sound : lentCheckOf P b ≡ Sound → (32 ≤ length b) × SoundBlock (isLeaf b) true b
-  lent-sound e =
-      let h = lent-iff .0 e in
-      let g = length-good (h .0) in
-      let s = g .size in
-      let l = g .least in
-      (omega arith, sound-weaker (isLeaf b) (isLeaf b) b (h .2))

@@ -92,7 +92,7 @@ pub fn index(b: &[u8], p: usize, key: &[u8]) -> Indexed
 {
     match lent_check(b, p) {
         Verdict::Breach(number, i) => Indexed::Refused(number, i),
-        Verdict::Sound => { Indexed::At(find(b, is_leaf(b), count(b), key)) }
+        Verdict::Sound => Indexed::At(find(b, is_leaf(b), count(b), key)),
     }
 }
 

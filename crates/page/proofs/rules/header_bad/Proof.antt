@@ -7,7 +7,7 @@ use native.Mathlib.Omega.{arith}
 use denote.Ref.{now}
 use Rattle.page.specs.Layout.{idOf, overflowOf}
 use Rattle.page.specs.PageRules.{headerBad}
-use Rattle.page.proofs.RuleLaws.{leb-same}
+use Rattle.page.proofs.TestLaws.{leb-same}
 use Rattle.page.proofs.rules.header_bad.Statement.{statement}
 use Rattle.page.proofs.rules.header_bad.Tie as tie
 

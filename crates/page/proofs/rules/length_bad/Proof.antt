@@ -5,7 +5,7 @@ use borrow.Author.Tests.{lt-leb, le-leb, not-true, not-false}
 use native.Mathlib.Omega.{arith}
 use lib.ListN.{length}
 use denote.Ref.{now}
-use Rattle.page.proofs.RuleLaws.{size-least}
+use Rattle.page.proofs.LentLaws.{size-least}
 use Rattle.page.proofs.rules.length_bad.Statement.{statement}
 use Rattle.page.proofs.rules.length_bad.Tie as tie
 

@@ -7,7 +7,7 @@ use native.Mathlib.Omega.{arith}
 use lib.ListN.{length}
 use denote.Ref.{now}
 use Rattle.page.specs.PageRules.{lengthBad}
-use Rattle.page.proofs.RuleLaws.{length-good, lent-length, lent-header, lent-rest}
+use Rattle.page.proofs.LentLaws.{length-good, lent-length, lent-header, lent-rest}
 use Rattle.page.proofs.rules.lent_check.Statement.{statement}
 use Rattle.page.proofs.rules.lent_check.Tie as tie
 

@@ -5,7 +5,7 @@ use borrow.Author.Tests.{not-true, not-false}
 use native.Mathlib.Omega.{arith}
 use denote.Ref.{now}
 use Rattle.page.specs.Layout.{isBranch, isLeaf}
-use Rattle.page.proofs.RuleLaws.{LengthGood, length-good, pages-least, overflow-test}
+use Rattle.page.proofs.LentLaws.{LengthGood, length-good, pages-least, overflow-test}
 use Rattle.page.proofs.rules.lent_header_bad.Statement.{statement}
 use Rattle.page.proofs.rules.lent_header_bad.Tie as tie
 

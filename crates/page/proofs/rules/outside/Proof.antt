@@ -3,7 +3,7 @@ use Prim.Native.Nat.{_+_, _-_}
 use borrow.Author.Needs.{needs}
 use borrow.Author.Tests.{lt-ltb, le-ltb}
 use native.Mathlib.Omega.{arith}
-use Rattle.page.proofs.RuleLaws.{ltb-same}
+use Rattle.page.proofs.TestLaws.{ltb-same}
 use Rattle.page.proofs.rules.outside.Statement.{statement}
 use Rattle.page.proofs.rules.outside.Tie as tie
 

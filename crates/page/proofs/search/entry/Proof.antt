@@ -9,7 +9,7 @@ use Rattle.page.specs.declared.rules.Verdict.the-variants.{Sound}
 use Rattle.page.specs.Layout.{countOf, isLeaf}
 use Rattle.page.specs.PageRules.{lentCheckOf, SoundBlock}
 use Rattle.page.specs.Search.{heldOf}
-use Rattle.page.proofs.RuleLaws.{lent-sound}
+use Rattle.page.proofs.LentLaws.{lent-sound}
 use Rattle.page.proofs.search.entry.Statement.{statement}
 use Rattle.page.proofs.search.entry.Tie as tie
 

@@ -5,7 +5,7 @@ use denote.Ref.{now}
 use Rattle.page.specs.declared.rules.Verdict.the-variants.{Sound}
 use Rattle.page.specs.PageRules.{lentCheckOf}
 use Rattle.page.specs.Search.{indexOf}
-use Rattle.page.proofs.RuleLaws.{lent-sound}
+use Rattle.page.proofs.LentLaws.{lent-sound}
 use Rattle.page.proofs.search.index.Statement.{statement}
 use Rattle.page.proofs.search.index.Tie as tie
 

@@ -12,7 +12,7 @@ use Rattle.page.specs.Layout.{countOf, isLeaf, tableEnd}
 use Rattle.page.specs.PageRules.{lentCheckOf}
 use Rattle.page.specs.Search.{indexPageOf}
 use Rattle.page.proofs.LayoutLaws.{element-room}
-use Rattle.page.proofs.RuleLaws.{lent-sound}
+use Rattle.page.proofs.LentLaws.{lent-sound}
 use Rattle.page.proofs.search.index_page.Statement.{statement}
 use Rattle.page.proofs.search.index_page.Tie as tie
 
