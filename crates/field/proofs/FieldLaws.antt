@@ -1,13 +1,14 @@
--- Laws of numbers in bytes, over the width: how long they are, that they fit, that what was put is read back, and what a row of stores leaves.
+-- Laws of numbers in bytes, over the width: how long they are, that they fit, that what was put is read back, what a row of stores leaves,
+-- and where they stand in a part.
 -- Assumes nothing.
 use mathlib.Core.Path.{_≡_, refl, sym, ap, _∙_, subst}
 use mathlib.Core.List.{List, [], _∷_, _++_, append-assoc}
 use Prim.Native.Nat.{ℕ, zero, suc, _+_, _-_, _*_, _/_, _%_, _^_, _≤_, _<_}
-use native.Mathlib.Nat.{pow-suc, div-lt-iff-lt-mul, mul-suc, mul-le-mul-left}
+use native.Mathlib.Nat.{add-assoc, pow-suc, div-lt-iff-lt-mul, mul-suc, mul-le-mul-left}
 use native.Mathlib.Omega.{arith}
 use lib.Dec.{lit<}
 use lib.ListN.{length, getD, set, take, drop, length-append, length-set}
-use lib.Seq.{length-take-le, getD-append-seam}
+use lib.Seq.{length-take-le, getD-append-seam, getD-take, getD-drop}
 use Rattle.field.specs.Field.{field, bytesOf, bigField}
 use Rattle.field.specs.Run.{putAt}
 use Rattle.field.proofs.RunLaws.{put-nil, put-cons}
@@ -73,3 +74,16 @@ unfolding putAt
 read-back w s at v fits h =
     subst (λ (n : ℕ). field w (take at s ++ bytesOf w v ++ drop (at + length (bytesOf w v)) s) n ≡ v) (length-take-le at s (omega arith))
     (read-at w v (take at s) (drop (at + length (bytesOf w v)) s) h)
+
+-- ---- a number in a part
+pub field-take : (w : ℕ) (s : List ℕ) (at n : ℕ) → at + w ≤ n → field w (take n s) at ≡ field w s at
+unfolding field
+field-take zero s at n h = refl
+field-take (suc w) s at n h =
+    let first : getD (take n s) at 0 ≡ getD s at 0 = getD-take n s at 0 (omega arith) in
+    rw (first, field-take w s (at + 1) n (omega arith))
+
+pub field-drop : (w : ℕ) (s : List ℕ) (k at : ℕ) → field w (drop k s) at ≡ field w s (k + at)
+unfolding field
+field-drop zero s k at = refl
+field-drop (suc w) s k at = rw (getD-drop k s at 0, field-drop w s k (at + 1), add-assoc k at 1)

@@ -1,5 +1,4 @@
 -- `field::sizes::size_allowed` meets its contract. Assumes nothing.
-use borrow.Author.Needs.{needs}
 use borrow.Author.Tests.{le-leb, lt-leb}
 use Rattle.field.proofs.sizes.size_allowed.Statement.{statement}
 use Rattle.field.proofs.sizes.size_allowed.Tie as tie

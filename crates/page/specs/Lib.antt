@@ -1,0 +1,4 @@
+-- What the contracts of `page` cite.
+pub mod Layout
+pub mod PageRules
+pub mod Search
