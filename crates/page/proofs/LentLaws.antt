@@ -17,6 +17,7 @@ use Rattle.field.specs.Sizes.{sizeAllowed}
 use Rattle.page.proofs.TestLaws.{eqb-same, and-both}
 use Rattle.page.proofs.RuleLaws.{unless-sound, check-sound, sound-check, sound-weaker}
 
+-- a whole number of pages, and one at least
 pub record LengthGood (P : ℕ) (b : List ℕ) : Type 0 where
   pub size : 1024 ≤ P
   pub least : P ≤ length b
@@ -54,6 +55,7 @@ module _ (P : ℕ) (b : List ℕ) where
             let f : length b / P ≡ o + 1 = div-eq-of-eq-mul-left (omega arith) (sym e) in
             omega arith
 
+  -- the check, a step at a time
   pub lent-length : lengthBad P b ≡ true → lentCheckOf P b ≡ Breach 1 0
   unfolding lentCheckOf
   lent-length e = rw e

@@ -70,8 +70,10 @@ unfolding tableBad
 table-over leaf empty b n h e z = rw (table-fits leaf (length b) n h, e, ne-eqb (countOf b) 0 (λ f. z (e ∙ f)))
 
 -- rule 6: what was read of an element, and its two tests
-pub element-test : (leaf : Bool) (b : List ℕ) (i end pos key value : ℕ) (out kind : Bool) → end ≡ tableEnd leaf b → pos ≡ posOf leaf b i → key ≡ keySize leaf b i → value ≡ valueSize leaf b i
-    → out ≡ outside end (length b) (elementAt leaf i + pos) (elementAt leaf i + pos + key + value) → kind ≡ kindBadAt leaf b i → elementBad leaf b i ≡ (out || kind)
+pub element-test : (leaf : Bool) (b : List ℕ) (i end pos key value : ℕ) (out kind : Bool)
+    → end ≡ tableEnd leaf b → pos ≡ posOf leaf b i → key ≡ keySize leaf b i → value ≡ valueSize leaf b i
+    → out ≡ outside end (length b) (elementAt leaf i + pos) (elementAt leaf i + pos + key + value) → kind ≡ kindBadAt leaf b i
+    → elementBad leaf b i ≡ (out || kind)
 unfolding elementBad
 element-test leaf b i end pos key value out kind p q r s o k = rw (o, k, p, q, r, s)
 
@@ -188,7 +190,7 @@ module _ (leaf emptyOk : Bool) (b : List ℕ) where
   pub sound-iff : (checkOf leaf emptyOk b ≡ Sound) ↔ SoundBlock leaf emptyOk b
   sound-iff = (check-sound, sound-check)
 
--- a sound block is one where an empty leaf is allowed too
+-- sound, and so sound where a count of 0 is allowed
 pub sound-weaker : (leaf emptyOk : Bool) (b : List ℕ) → SoundBlock leaf emptyOk b → SoundBlock leaf true b
 sound-weaker leaf emptyOk b s =
     record { filled = λ e. refl; fits = s .fits; after = s .after; within = s .within; kinds = s .kinds; rising = s .rising }
@@ -207,5 +209,6 @@ module _ (leaf emptyOk : Bool) (b : List ℕ) where
   unfolding checkOf
   check-goes-on t e = rw (t, e)
 
+-- rule 6 passed, each key lies in the block
 pub within-all : (leaf : Bool) (b : List ℕ) → firstBad (elementBad leaf b) 5 (countOf b) 0 ≡ Sound → (i : ℕ) → i < countOf b → valueAt leaf b i ≤ length b
 within-all leaf b e i l = let g = element-good leaf b i (bad-none-at (elementBad leaf b) 5 (countOf b) 0 e i (omega arith) (omega arith)) in omega arith

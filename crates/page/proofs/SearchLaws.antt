@@ -54,26 +54,25 @@ module _ (leaf : Bool) (b key : List ℕ) (n : ℕ) (all : n ≡ countOf b) (m :
       ∙ ⊎-elim (λ q. scan-end leaf b key n m q) (λ q. scan-higher leaf b key n m q (g m (omega arith) q)) (eq-or-lt-of-le l))
 
 -- ---- a sound block's keys
-module _ (leaf emptyOk : Bool) (b : List ℕ) (sound : SoundBlock leaf emptyOk b) where
-  module _ (key : List ℕ) (mid : ℕ) (l : mid < countOf b) where
-    pub before-equal : orderOf (keyOf leaf b mid) key ≡ Equal → (k : ℕ) → k < mid → orderOf (keyOf leaf b k) key ≡ Lower
-    before-equal e k q = rw (order-equal (keyOf leaf b mid) key e) at (rising-far leaf emptyOk b sound k mid q l)
+module _ (leaf emptyOk : Bool) (b : List ℕ) (sound : SoundBlock leaf emptyOk b) (key : List ℕ) (mid : ℕ) (l : mid < countOf b) where
+  pub before-equal : orderOf (keyOf leaf b mid) key ≡ Equal → (k : ℕ) → k < mid → orderOf (keyOf leaf b k) key ≡ Lower
+  before-equal e k q = rw (order-equal (keyOf leaf b mid) key e) at (rising-far leaf emptyOk b sound k mid q l)
 
-    pub up-to-lower : orderOf (keyOf leaf b mid) key ≡ Lower → (k : ℕ) → k < mid + 1 → orderOf (keyOf leaf b k) key ≡ Lower
-    up-to-lower e k q =
-        let h : k ≤ mid = omega arith in
-        ⊎-elim
-        (λ r. ap (λ (j : ℕ). orderOf (keyOf leaf b j) key) r ∙ e)
-        (λ r. lower-trans (keyOf leaf b k) (keyOf leaf b mid) key (rising-far leaf emptyOk b sound k mid r l) e)
-        (eq-or-lt-of-le h)
+  pub up-to-lower : orderOf (keyOf leaf b mid) key ≡ Lower → (k : ℕ) → k < mid + 1 → orderOf (keyOf leaf b k) key ≡ Lower
+  up-to-lower e k q =
+      let h : k ≤ mid = omega arith in
+      ⊎-elim
+      (λ r. ap (λ (j : ℕ). orderOf (keyOf leaf b j) key) r ∙ e)
+      (λ r. lower-trans (keyOf leaf b k) (keyOf leaf b mid) key (rising-far leaf emptyOk b sound k mid r l) e)
+      (eq-or-lt-of-le h)
 
-    pub from-higher-on : orderOf (keyOf leaf b mid) key ≡ Higher → (k : ℕ) → mid ≤ k → k < countOf b → orderOf (keyOf leaf b k) key ≡ Higher
-    from-higher-on e k q m =
-        let f : orderOf key (keyOf leaf b mid) ≡ Lower = lower-iff key (keyOf leaf b mid) .1 e in
-        ⊎-elim
-        (λ r. ap (λ (j : ℕ). orderOf (keyOf leaf b j) key) (sym r) ∙ e)
-        (λ r. lower-iff key (keyOf leaf b k) .0 (lower-trans key (keyOf leaf b mid) (keyOf leaf b k) f (rising-far leaf emptyOk b sound mid k r m)))
-        (eq-or-lt-of-le q)
+  pub from-higher-on : orderOf (keyOf leaf b mid) key ≡ Higher → (k : ℕ) → mid ≤ k → k < countOf b → orderOf (keyOf leaf b k) key ≡ Higher
+  from-higher-on e k q m =
+      let f : orderOf key (keyOf leaf b mid) ≡ Lower = lower-iff key (keyOf leaf b mid) .1 e in
+      ⊎-elim
+      (λ r. ap (λ (j : ℕ). orderOf (keyOf leaf b j) key) (sym r) ∙ e)
+      (λ r. lower-iff key (keyOf leaf b k) .0 (lower-trans key (keyOf leaf b mid) (keyOf leaf b k) f (rising-far leaf emptyOk b sound mid k r m)))
+      (eq-or-lt-of-le q)
 
 -- ---- what the scan answers, for any block: the first key that is not lower decides
 pub data Scanned (leaf : Bool) (b key : List ℕ) (p : Place) : Type 0 where

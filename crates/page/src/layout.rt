@@ -1,7 +1,7 @@
 // The numbers of a block's header and elements, and its keys.
 ghost use mathlib.Core.Path.{_≡_};
 ghost use mathlib.Core.Bool.{true, false};
-ghost use Prim.Native.Nat.{_+_, _*_, _<_, _≤_};
+ghost use Prim.Native.Nat.{_+_, _≤_};
 ghost use lib.ListN.{length};
 ghost use Rattle.field.specs.Order.{orderOf};
 ghost use Rattle.page.specs.Layout.{idOf, typeOf, countOf, overflowOf, isLeaf, elementSize, elementAt, pageOf, kindOf, keySize, valueSize, keyAt, valueAt, keyOf};

@@ -164,6 +164,19 @@ fn check_elements(b: &[u8], leaf: bool, n: usize) -> Verdict
     Verdict::Sound
 }
 
+// Whether the key of element `i` is not above the one before it, which breaks rule 7.
+fn key_bad(b: &[u8], leaf: bool, i: usize) -> bool
+    requires { ⌜ (1 ≤ i) × (i < countOf (now b)) × (tableEnd leaf (now b) ≤ length (now b))
+        × (valueAt leaf (now b) (i - 1) ≤ length (now b)) × (valueAt leaf (now b) i ≤ length (now b)) ⌝ }
+    ensures { λ r. ⌜ r ≡ keyBad leaf (now (b .entry)) i ⌝ }
+{
+    match key_order(b, leaf, i - 1, key(b, leaf, i)) {
+        Order::Lower => false,
+        Order::Equal => true,
+        Order::Higher => true,
+    }
+}
+
 // Rule 7: the first element whose key is not above the one before it.
 fn check_keys(b: &[u8], leaf: bool, n: usize) -> Verdict
     requires { ⌜ (n ≡ countOf (now b)) × (tableEnd leaf (now b) ≤ length (now b))
@@ -172,17 +185,10 @@ fn check_keys(b: &[u8], leaf: bool, n: usize) -> Verdict
 {
     let mut i = 1;
     while i < n {
-        match key_order(b, leaf, i - 1, key(b, leaf, i)) {
-            Order::Lower => {
-                i += 1;
-            }
-            Order::Equal => {
-                return Verdict::Breach(6, i);
-            }
-            Order::Higher => {
-                return Verdict::Breach(6, i);
-            }
+        if key_bad(b, leaf, i) {
+            return Verdict::Breach(6, i);
         }
+        i += 1;
     }
     Verdict::Sound
 }

@@ -41,7 +41,9 @@ loop-again c =
     let s = c .before .before .before .before .before .before .before in
     let l = c .before .before .before .before .loop in
     let e = s .pre .0 in
-    let lower = up-to-lower (s .args .leaf) true (now (s .args .b)) (s .pre .1) (now (s .args .key)) (l .lo + (l .hi - l .lo) / 2) (omega arith) (sym (c .before .before .key-order .ensures) ∙ c .enum-told .given .1) in
+    let mid = l .lo + (l .hi - l .lo) / 2 in
+    let order = sym (c .before .before .key-order .ensures) ∙ c .enum-told .given .1 in
+    let lower = up-to-lower (s .args .leaf) true (now (s .args .b)) (s .pre .1) (now (s .args .key)) mid (omega arith) order in
     (omega arith, omega arith, lower, l .inv .3)
 
 returns : tie.Need-returns Inv-loop μ-loop
@@ -59,7 +61,9 @@ loop-again-2 c =
     let s = c .before .before .before .before .before .before .before in
     let l = c .before .before .before .before .loop in
     let e = s .pre .0 in
-    let higher = from-higher-on (s .args .leaf) true (now (s .args .b)) (s .pre .1) (now (s .args .key)) (l .lo + (l .hi - l .lo) / 2) (omega arith) (sym (c .before .before .key-order .ensures) ∙ c .enum-told3 .given .1) in
+    let mid = l .lo + (l .hi - l .lo) / 2 in
+    let order = sym (c .before .before .key-order .ensures) ∙ c .enum-told3 .given .1 in
+    let higher = from-higher-on (s .args .leaf) true (now (s .args .b)) (s .pre .1) (now (s .args .key)) mid (omega arith) order in
     (omega arith, omega arith, l .inv .2, λ k q m. higher k q (omega arith))
 
 returns-2 : tie.Need-returns-2 Inv-loop μ-loop
