@@ -1,0 +1,72 @@
+-- The number and the values of each answer: what a call answers for a number and its values, and the number that an answer has.
+-- Assumes nothing.
+use mathlib.Core.Bool.{Bool, true, false}
+use Prim.Native.Nat.{ℕ, zero, suc}
+use Rattle.freelist.specs.declared.Answer.{Answer}
+use Rattle.freelist.specs.declared.Answer.the-variants as answer
+use Rattle.freelist.specs.declared.Allocated.{Allocated}
+use Rattle.freelist.specs.declared.Allocated.the-variants as allocated
+use Rattle.freelist.specs.declared.Listed.{Listed}
+use Rattle.freelist.specs.declared.Listed.the-variants as listed
+use Rattle.freelist.specs.declared.Measured.{Measured}
+use Rattle.freelist.specs.declared.Measured.the-variants as measured
+
+-- ---- numbers
+
+infix 25 _orElse_
+infixr 20 _andThen_
+
+-- 0 where the test holds, and else the number
+abbrev pub _orElse_ : Bool → ℕ → ℕ
+true orElse c = 0
+false orElse c = c
+
+-- the first number, and where that is 0 the second
+abbrev pub _andThen_ : ℕ → ℕ → ℕ
+zero andThen d = d
+suc c andThen d = suc c
+
+-- what is lent is changed where the number is 0, and stays otherwise
+abbrev pub onDone {ℓ} : {A : Type ℓ} → ℕ → A → A → A
+onDone zero new old = new
+onDone (suc c) new old = old
+
+-- ---- done, or refused
+
+abbrev pub answerOf : ℕ → Answer
+answerOf zero = answer.Done
+answerOf (suc c) = answer.Refused (suc c)
+
+abbrev pub numberOf : Answer → ℕ
+numberOf answer.Done = 0
+numberOf (answer.Refused c) = c
+
+-- ---- the first page handed out and the count of pages from then on, or refused
+
+abbrev pub allocatedOf : ℕ → ℕ → ℕ → Allocated
+allocatedOf zero s m = allocated.At s m
+allocatedOf (suc c) s m = allocated.Refused (suc c)
+
+abbrev pub allocatedNumber : Allocated → ℕ
+allocatedNumber (allocated.At s m) = 0
+allocatedNumber (allocated.Refused c) = c
+
+-- ---- how many ids were written, or refused
+
+abbrev pub listedOf : ℕ → ℕ → Listed
+listedOf zero k = listed.Count k
+listedOf (suc c) k = listed.Refused (suc c)
+
+abbrev pub listedNumber : Listed → ℕ
+listedNumber (listed.Count k) = 0
+listedNumber (listed.Refused c) = c
+
+-- ---- how many bytes, or refused
+
+abbrev pub measuredOf : ℕ → ℕ → Measured
+measuredOf zero k = measured.Bytes k
+measuredOf (suc c) k = measured.Refused (suc c)
+
+abbrev pub measuredNumber : Measured → ℕ
+measuredNumber (measured.Bytes k) = 0
+measuredNumber (measured.Refused c) = c
