@@ -5,3 +5,5 @@ pub mod PageLaws
 pub mod EachLaws
 pub mod WordLaws
 pub mod FaultLaws
+pub mod RunLaws
+pub mod ListLaws

@@ -159,6 +159,20 @@ rising-at low (p ∷ ps) e (suc i) (suc j) l b = rising-at (p + 1) ps (and-parts
 
 -- ---- keep
 
+-- the pages from p on and below n: a turn that keeps p, one that leaves it out, and the end
+module _ (ok : ℕ → Bool) (p n : ℕ) where
+  pub keep-next : p < n → ok p ≡ true → keep ok (row p (n - p)) ≡ p ∷ keep ok (row (p + 1) (n - (p + 1)))
+  unfolding keep
+  keep-next l h = rw (row-next p n l, h)
+
+  pub keep-skip : p < n → ok p ≡ false → keep ok (row p (n - p)) ≡ keep ok (row (p + 1) (n - (p + 1)))
+  unfolding keep
+  keep-skip l h = rw (row-next p n l, h)
+
+  pub keep-none : n ≤ p → keep ok (row p (n - p)) ≡ []
+  unfolding keep
+  keep-none l = rw (row-none p n l)
+
 pub length-keep : (ok : ℕ → Bool) (ps : List ℕ) → length (keep ok ps) ≤ length ps
 unfolding keep
 length-keep ok [] = omega arith

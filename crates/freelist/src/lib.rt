@@ -1,6 +1,8 @@
 // The freelist over a table that the caller lends: each page below 32,768 is in use, free, or pending under a transaction's number.
 mod check;
+mod list;
 mod row;
+mod run;
 mod table;
 
 pub use table::State;

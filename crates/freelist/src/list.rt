@@ -1,0 +1,83 @@
+// Lists of page numbers: the initial list, and the listing of free and pending pages.
+ghost use mathlib.Core.Path.{_≡_};
+ghost use Prim.Native.Nat.{ℕ, _<_, _≤_};
+ghost use lib.ListN.{length, getD};
+ghost use Rattle.field.specs.Run.{putAt};
+ghost use Rattle.freelist.specs.Freelist.{initial, initTable, listing};
+use super::table::State;
+use super::table::is_in_use;
+use super::table::is_listed;
+use super::table::put_state;
+use super::table::state_of;
+
+// Whether the ids rise strictly, and each is from 2 to n - 1 and in use.
+pub fn is_initial(t: &[u64], n: u64, ids: &[u64]) -> bool
+    requires { ⌜ (n ≤ 32768) × (33792 ≤ length (now t)) ⌝ }
+    ensures { λ r. ⌜ r ≡ initial (now (t .entry)) n (now (ids .entry)) ⌝ }
+{
+    let mut low = 2;
+    let mut i = 0;
+    while i < ids.len() {
+        let id = ids[i];
+        if id < low {
+            return false;
+        }
+        if n <= id {
+            return false;
+        }
+        if !is_in_use(state_of(t, id)) {
+            return false;
+        }
+        low = id + 1;
+        i += 1;
+    }
+    true
+}
+
+// Frees each of the ids.
+pub fn free_each(t: &mut [u64], ids: &[u64])
+    requires { ⌜ ((k : ℕ) → k < length (now ids) → getD (now ids) k 0 < 32768) × (33792 ≤ length (now t)) ⌝ }
+    ensures { λ _. ⌜ now (t .exit) ≡ initTable (now (t .entry)) (now (ids .entry)) ⌝ }
+{
+    let mut i = 0;
+    while i < ids.len() {
+        put_state(t, ids[i], State::Free);
+        i += 1;
+    }
+}
+
+// How many of the pages from 2 to n - 1 are free or pending.
+pub fn count_listed(t: &[u64], n: u64) -> u64
+    requires { ⌜ (n ≤ 32768) × (33792 ≤ length (now t)) ⌝ }
+    ensures { λ r. ⌜ (r ≡ length (listing (now (t .entry)) n)) × (r ≤ n) ⌝ }
+{
+    let mut count = 0;
+    let mut i = 2;
+    while i < n {
+        if is_listed(state_of(t, i)) {
+            count += 1;
+            i += 1;
+        } else {
+            i += 1;
+        }
+    }
+    count
+}
+
+// Writes the free and pending ones of the pages from 2 to n - 1 from `ids[0]` on.
+pub fn write_listed(t: &[u64], n: u64, ids: &mut [u64])
+    requires { ⌜ (n ≤ 32768) × (33792 ≤ length (now t)) × (length (listing (now t) n) ≤ length (now ids)) ⌝ }
+    ensures { λ _. ⌜ now (ids .exit) ≡ putAt (now (ids .entry)) 0 (listing (now (t .entry)) n) ⌝ }
+{
+    let mut at = 0;
+    let mut i = 2;
+    while i < n {
+        if is_listed(state_of(t, i)) {
+            ids[at] = i;
+            at += 1;
+            i += 1;
+        } else {
+            i += 1;
+        }
+    }
+}
