@@ -95,7 +95,7 @@ low-digits-zero x k e j l =
     let d = k - j - 1 in
     let f : k ≡ d + 1 + j = omega arith in
     let h : y % 2 ^ (d + 1) ≡ 0 =
-        sym (field x (d + 1) j) ∙ ap (λ (n : ℕ). x % 2 ^ n / 2 ^ j) (sym f) ∙ ap (λ (n : ℕ). n / 2 ^ j) e ∙ zero-div (2 ^ j) in
+    sym (field x (d + 1) j) ∙ ap (λ (n : ℕ). x % 2 ^ n / 2 ^ j) (sym f) ∙ ap (λ (n : ℕ). n / 2 ^ j) e ∙ zero-div (2 ^ j) in
     sym (mod-mod-pow y d 1) ∙ ap (λ (n : ℕ). n % 2) h
 
 pub low-digits-of-zero : (x k : ℕ) → ((j : ℕ) → j < k → x / 2 ^ j % 2 ≡ 0) → x % 2 ^ k ≡ 0

@@ -12,17 +12,8 @@ use Rattle.freelist.specs.Table.{stateOf, isState}
 use Rattle.freelist.specs.Pages.{all, pagesOf}
 use Rattle.freelist.specs.Answers.{_orElse_, _andThen_}
 use Rattle.freelist.specs.Freelist.{hasRoom, allowedCount, faultOf}
+use Rattle.freelist.proofs.AnswerLaws.{held, both-zero}
 use Rattle.freelist.proofs.PageLaws.{and-parts, all-row-of, all-row-at}
-
--- ---- numbers: the test held, and both numbers are 0
-
-pub held : (b : Bool) (c : ℕ) → (b orElse suc c) ≡ 0 → b ≡ true
-held true c e = refl
-held false c e = absurd (omega arith)
-
-pub both-zero : (c d : ℕ) → (c andThen d) ≡ 0 → (c ≡ 0) × (d ≡ 0)
-both-zero zero d e = (refl, e)
-both-zero (suc c) d e = absurd (omega arith)
 
 -- ---- by what the code of `fault` found
 module _ (t : List ℕ) (n : ℕ) where

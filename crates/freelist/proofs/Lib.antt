@@ -4,6 +4,9 @@ pub mod States
 pub mod PageLaws
 pub mod EachLaws
 pub mod WordLaws
+pub mod AnswerLaws
 pub mod FaultLaws
+pub mod NumberLaws
 pub mod RunLaws
+pub mod AllocateLaws
 pub mod ListLaws

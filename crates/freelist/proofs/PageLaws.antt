@@ -28,6 +28,13 @@ pub and-parts : (a b : Bool) → (a && b) ≡ true → (a ≡ true) × (b ≡ tr
 and-parts true b e = (refl, e)
 and-parts false b e = absurd (clash e refl)
 
+-- ---- the page at a place
+
+pub at-in : (ps : List ℕ) (j : ℕ) → j < length ps → getD ps j 0 ∈ ps
+at-in [] j l = absurd (omega arith)
+at-in (p ∷ ps) zero l = List·Memᴰ·head refl
+at-in (p ∷ ps) (suc j) l = List·Memᴰ·tail (at-in ps j (omega arith))
+
 -- ---- a row of pages
 
 -- from p on and below n: a turn, and the end
@@ -148,13 +155,8 @@ rising-at low [] e i j l b = absurd (omega arith)
 rising-at low (p ∷ ps) e i zero l b = absurd (omega arith)
 rising-at low (p ∷ ps) e zero (suc j) l b =
     let h = and-parts (leb low p) (rising (p + 1) ps) e in
-    let a = rising-low (p + 1) ps (h .1) (getD ps j 0) (member ps j (omega arith)) in
+    let a = rising-low (p + 1) ps (h .1) (getD ps j 0) (at-in ps j (omega arith)) in
     omega arith
-  where
-    member : (ps : List ℕ) (j : ℕ) → j < length ps → getD ps j 0 ∈ ps
-    member [] j l = absurd (omega arith)
-    member (p ∷ ps) zero l = List·Memᴰ·head refl
-    member (p ∷ ps) (suc j) l = List·Memᴰ·tail (member ps j (omega arith))
 rising-at low (p ∷ ps) e (suc i) (suc j) l b = rising-at (p + 1) ps (and-parts (leb low p) (rising (p + 1) ps) e .1) i j (omega arith) (omega arith)
 
 -- ---- keep
@@ -202,9 +204,9 @@ keep-iff ok q (p ∷ ps) = go (keep-iff ok q ps) (ok p) refl
     go : q ∈ keep ok ps ↔ ((q ∈ ps) × (ok q ≡ true)) → (b : Bool) → ok p ≡ b → q ∈ cond (ok p) (p ∷ keep ok ps) (keep ok ps) ↔ ((q ∈ (p ∷ ps)) × (ok q ≡ true))
     go ih true e = rw e (
       λ m. ⊎-elim (λ s. (List·Memᴰ·head s, ap ok s ∙ e)) (λ m. let r = ih .0 m in (List·Memᴰ·tail (r .0), r .1)) (List·Memᴰ·cases-cons m),
-      λ r. ⊎-elim (λ s. List·Memᴰ·head s) (λ m. List·Memᴰ·tail (ih .1 (m, r .1))) (List·Memᴰ·cases-cons (r .0))
+      λ r. ⊎-elim (λ s. List·Memᴰ·head s) (λ m. List·Memᴰ·tail (ih .1 (m, r .1))) (List·Memᴰ·cases-cons (r .0)),
     )
     go ih false e = rw e (
       λ m. let r = ih .0 m in (List·Memᴰ·tail (r .0), r .1),
-      λ r. ⊎-elim (λ s. absurd (clash (r .1) (ap ok s ∙ e))) (λ m. ih .1 (m, r .1)) (List·Memᴰ·cases-cons (r .0))
+      λ r. ⊎-elim (λ s. absurd (clash (r .1) (ap ok s ∙ e))) (λ m. ih .1 (m, r .1)) (List·Memᴰ·cases-cons (r .0)),
     )

@@ -151,6 +151,9 @@ module _ (t : List ℕ) (n pages : ℕ) where
   unfolding lowest
   lowest-law l = first-law (run t n pages) n (n - 2) 2
 
+  pub lowest-top : 2 ≤ n → n ≤ lowest t n pages → lowest t n pages ≡ n
+  lowest-top l h = ⊎-elim (λ f. absurd (omega (arith, f .below))) (λ f. f .0) (lowest-law l)
+
   pub lowest-fits : 2 ≤ n → lowest t n pages < n → lowest t n pages + pages ≤ n
   unfolding run
   lowest-fits l h = ⊎-elim (λ f. leb-true _ _ (and-parts (leb (lowest t n pages + pages) n) (all (free t) (row (lowest t n pages) pages)) (f .here) .0)) (λ f. absurd (omega (arith, f .0))) (lowest-law l)
@@ -177,7 +180,7 @@ module _ (bytes size : ℕ) (wide : 2 ≤ size) where
       rw f (sym (digits-div (bytes / size + 1) (omega arith)))
 
   pub needed-fits : (bytes % size ≡ 0 → ⊥) → bytes / size + 1 ≤ bytes
-  needed-fits n = 
+  needed-fits n =
       let s = div-add-mod' bytes size in
       let l = some-left n in
       let d : bytes / size < bytes = div-lt-self (omega arith) (omega arith) in

@@ -1,5 +1,6 @@
 -- The number and the values of each answer: what a call answers for a number and its values, and the number that an answer has.
 -- Assumes nothing.
+use mathlib.Core.List.{List}
 use mathlib.Core.Bool.{Bool, true, false}
 use Prim.Native.Nat.{ℕ, zero, suc}
 use Rattle.freelist.specs.declared.Answer.{Answer}
@@ -15,7 +16,6 @@ use Rattle.freelist.specs.declared.Measured.the-variants as measured
 
 infix 25 _orElse_
 infixr 20 _andThen_
-
 -- 0 where the test holds, and else the number
 abbrev pub _orElse_ : Bool → ℕ → ℕ
 true orElse c = 0
@@ -27,7 +27,7 @@ zero andThen d = d
 suc c andThen d = suc c
 
 -- what is lent is changed where the number is 0, and stays otherwise
-abbrev pub onDone {ℓ} : {A : Type ℓ} → ℕ → A → A → A
+abbrev pub onDone : ℕ → List ℕ → List ℕ → List ℕ
 onDone zero new old = new
 onDone (suc c) new old = old
 

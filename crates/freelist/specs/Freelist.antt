@@ -6,11 +6,12 @@ use Prim.Native.Nat.{ℕ, _+_, _-_, _*_, _/_, _%_}
 use lib.Dec.{eqb, leb, ltb}
 use lib.ListN.{length, replicate}
 use Rattle.field.specs.Run.{putAt}
+use Rattle.freelist.specs.declared.Allocated.{Allocated}
 use Rattle.freelist.specs.declared.table.State.{State}
 use Rattle.freelist.specs.declared.table.State.the-variants.{InUse, Free, Pending, Broken}
 use Rattle.freelist.specs.Table.{stateOf, isState, isInUse, isFree, isListed}
 use Rattle.freelist.specs.Pages.{row, pagesOf, all, first, keep, rising, each}
-use Rattle.freelist.specs.Answers.{_orElse_, _andThen_}
+use Rattle.freelist.specs.Answers.{_orElse_, _andThen_, allocatedOf}
 
 -- ---- sizes allowed
 
@@ -89,15 +90,22 @@ lowest t n pages = first (run t n pages) n (pagesOf n)
 unfoldable pub countAfter : List ℕ → ℕ → ℕ → ℕ
 countAfter t n pages = cond (ltb (lowest t n pages) n) n (n + pages)
 
--- a page size not allowed is 1, fewer than 40 bytes are 11, and no such run with no room for growth is 12
-unfoldable pub allocateNumber : List ℕ → ℕ → ℕ → ℕ → ℕ
-allocateNumber t n size bytes =
-    allowedSize size orElse 1 andThen faultOf t n andThen leb 40 bytes orElse 11
-    andThen leb (countAfter t n (pagesNeeded bytes size)) 32768 orElse 12
+-- every cause of 1 and 11: a page size not allowed is 1, and fewer than 40 bytes are 11
+unfoldable pub requestFault : List ℕ → ℕ → ℕ → ℕ → ℕ
+requestFault t n size bytes = allowedSize size orElse 1 andThen faultOf t n andThen leb 40 bytes orElse 11
 
--- the pages handed out are in use
-unfoldable pub allocateTable : List ℕ → ℕ → ℕ → List ℕ
-allocateTable t n pages = each (λ s. InUse) (row (lowest t n pages) pages) t
+-- then 12 where the count would exceed 32,768
+unfoldable pub allocateNumber : List ℕ → ℕ → ℕ → ℕ → ℕ
+allocateNumber t n size bytes = requestFault t n size bytes andThen leb (countAfter t n (pagesNeeded bytes size)) 32768 orElse 12
+
+-- the pages handed out start at the lowest run, and with no such run at n
+unfoldable pub allocateAnswer : List ℕ → ℕ → ℕ → ℕ → Allocated
+allocateAnswer t n size bytes =
+    allocatedOf (allocateNumber t n size bytes) (lowest t n (pagesNeeded bytes size)) (countAfter t n (pagesNeeded bytes size))
+
+-- they are in use
+unfoldable pub allocateTable : List ℕ → ℕ → ℕ → ℕ → List ℕ
+allocateTable t n size bytes = each (λ s. InUse) (row (lowest t n (pagesNeeded bytes size)) (pagesNeeded bytes size)) t
 
 -- ---- listing: free and pending ids, rising; a list too short for them is 10
 
@@ -106,6 +114,10 @@ listing t n = keep (λ k. isListed (stateOf t k)) (pagesOf n)
 
 unfoldable pub pagesNumber : List ℕ → ℕ → List ℕ → ℕ
 pagesNumber t n ids = faultOf t n andThen leb (length (listing t n)) (length ids) orElse 10
+
+-- the ids are written from the first place on, and the rest stays
+unfoldable pub pagesList : List ℕ → ℕ → List ℕ → List ℕ
+pagesList t n ids = putAt ids 0 (listing t n)
 
 -- ---- size: 40 plus 8 for each
 

@@ -8,7 +8,6 @@ use Rattle.freelist.specs.declared.table.State.{State}
 use Rattle.freelist.specs.Table.{stateOf, put}
 
 infix 4 _∈_
-
 -- q is one of the pages
 abbrev pub _∈_ : ℕ → List ℕ → Type 0
 q ∈ ps = List·Memᴰ q ps

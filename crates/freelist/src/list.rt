@@ -2,8 +2,8 @@
 ghost use mathlib.Core.Path.{_≡_};
 ghost use Prim.Native.Nat.{ℕ, _<_, _≤_};
 ghost use lib.ListN.{length, getD};
-ghost use Rattle.field.specs.Run.{putAt};
-ghost use Rattle.freelist.specs.Freelist.{initial, initTable, listing};
+ghost use Rattle.freelist.specs.Freelist.{initial, initNumber, initTable, listing, pagesList};
+use super::check::fault;
 use super::table::State;
 use super::table::is_in_use;
 use super::table::is_listed;
@@ -11,7 +11,7 @@ use super::table::put_state;
 use super::table::state_of;
 
 // Whether the ids rise strictly, and each is from 2 to n - 1 and in use.
-pub fn is_initial(t: &[u64], n: u64, ids: &[u64]) -> bool
+fn is_initial(t: &[u64], n: u64, ids: &[u64]) -> bool
     requires { ⌜ (n ≤ 32768) × (33792 ≤ length (now t)) ⌝ }
     ensures { λ r. ⌜ r ≡ initial (now (t .entry)) n (now (ids .entry)) ⌝ }
 {
@@ -32,6 +32,20 @@ pub fn is_initial(t: &[u64], n: u64, ids: &[u64]) -> bool
         i += 1;
     }
     true
+}
+
+// The number that `init` answers.
+pub fn init_number(t: &[u64], n: u64, ids: &[u64]) -> u64
+    ensures { λ r. ⌜ r ≡ initNumber (now (t .entry)) n (now (ids .entry)) ⌝ }
+{
+    let bad = fault(t, n);
+    if bad != 0 {
+        return bad;
+    }
+    if is_initial(t, n, ids) {
+        return 0;
+    }
+    11
 }
 
 // Frees each of the ids.
@@ -67,7 +81,7 @@ pub fn count_listed(t: &[u64], n: u64) -> u64
 // Writes the free and pending ones of the pages from 2 to n - 1 from `ids[0]` on.
 pub fn write_listed(t: &[u64], n: u64, ids: &mut [u64])
     requires { ⌜ (n ≤ 32768) × (33792 ≤ length (now t)) × (length (listing (now t) n) ≤ length (now ids)) ⌝ }
-    ensures { λ _. ⌜ now (ids .exit) ≡ putAt (now (ids .entry)) 0 (listing (now (t .entry)) n) ⌝ }
+    ensures { λ _. ⌜ now (ids .exit) ≡ pagesList (now (t .entry)) n (now (ids .entry)) ⌝ }
 {
     let mut at = 0;
     let mut i = 2;

@@ -4,14 +4,15 @@ ghost use Prim.Native.Nat.{_+_, _<_, _≤_};
 ghost use lib.ListN.{length};
 ghost use Rattle.freelist.specs.Table.{stateOf, isInUse, put};
 ghost use Rattle.freelist.specs.Pages.{row, all, each};
-ghost use Rattle.freelist.specs.Freelist.{ripe, releaseTable};
+ghost use Rattle.freelist.specs.Freelist.{inside, freeNumber, ripe, releaseTable};
+use super::check::fault;
 use super::table::State;
 use super::table::is_in_use;
 use super::table::put_state;
 use super::table::state_of;
 
 // Whether each of the `count` pages from `p` on is in use.
-pub fn all_in_use(t: &[u64], p: u64, count: u64) -> bool
+fn all_in_use(t: &[u64], p: u64, count: u64) -> bool
     requires { ⌜ (p + count ≤ 32768) × (33792 ≤ length (now t)) ⌝ }
     ensures { λ r. ⌜ r ≡ all (λ k. isInUse (stateOf (now (t .entry)) k)) (row p count) ⌝ }
 {
@@ -24,6 +25,39 @@ pub fn all_in_use(t: &[u64], p: u64, count: u64) -> bool
         i += 1;
     }
     true
+}
+
+// Whether the `count` pages from `p` on are at least one, and lie inside 2 to n - 1.
+fn is_inside(n: u64, p: u64, count: u64) -> bool
+    ensures { λ r. ⌜ r ≡ inside n p count ⌝ }
+{
+    if count < 1 {
+        return false;
+    }
+    if p < 2 {
+        return false;
+    }
+    if n < p {
+        return false;
+    }
+    count <= n - p
+}
+
+// The number that `free` answers.
+pub fn free_number(t: &[u64], n: u64, p: u64, count: u64) -> u64
+    ensures { λ r. ⌜ r ≡ freeNumber (now (t .entry)) n p count ⌝ }
+{
+    let bad = fault(t, n);
+    if bad != 0 {
+        return bad;
+    }
+    if !is_inside(n, p, count) {
+        return 11;
+    }
+    if !all_in_use(t, p, count) {
+        return 11;
+    }
+    0
 }
 
 // Puts each of the `count` pages from `p` on in the state `s`.

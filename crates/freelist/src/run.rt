@@ -2,9 +2,40 @@
 ghost use mathlib.Core.Path.{_≡_};
 ghost use Prim.Native.Nat.{_≤_};
 ghost use lib.ListN.{length};
-ghost use Rattle.freelist.specs.Freelist.{pagesNeeded, lowest};
+ghost use Rattle.freelist.specs.Freelist.{allowedSize, requestFault, pagesNeeded, lowest};
+use super::check::fault;
 use super::table::is_free;
 use super::table::state_of;
+
+// Whether the page size is 1,024 to 65,536 and a multiple of 8.
+fn is_allowed(page_size: u64) -> bool
+    ensures { λ r. ⌜ r ≡ allowedSize «page_size» ⌝ }
+{
+    if page_size < 1024 {
+        return false;
+    }
+    if page_size > 65536 {
+        return false;
+    }
+    page_size % 8 == 0
+}
+
+// The number that a request for bytes gives by every cause of 1 and 11, 0 where it passes.
+pub fn request_fault(t: &[u64], n: u64, page_size: u64, bytes: u64) -> u64
+    ensures { λ r. ⌜ r ≡ requestFault (now (t .entry)) n «page_size» bytes ⌝ }
+{
+    if !is_allowed(page_size) {
+        return 1;
+    }
+    let bad = fault(t, n);
+    if bad != 0 {
+        return bad;
+    }
+    if bytes < 40 {
+        return 11;
+    }
+    0
+}
 
 // The bytes over the page size, rounded up.
 pub fn pages_needed(bytes: u64, page_size: u64) -> u64

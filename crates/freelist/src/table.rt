@@ -3,6 +3,7 @@ ghost use mathlib.Core.Path.{_≡_};
 ghost use Prim.Native.Nat.{_<_, _≤_};
 ghost use lib.ListN.{length};
 ghost use Rattle.freelist.specs.Table.{bit, putBit, stateOf, isState, isInUse, isFree, isListed, freeBit, pendingBit, put};
+ghost use Rattle.freelist.specs.Freelist.{newTable};
 
 // A page's state. A page with both bits is in none of the three, which is `Broken`.
 pub enum State {
@@ -33,6 +34,18 @@ fn put_bit(t: &mut [u64], j: u64, on: bool)
         t[at] = w;
     } else {
         t[at] = w ^ one;
+    }
+}
+
+// Makes every bit off, so that each page is in use.
+pub fn clear_bits(t: &mut [u64])
+    requires { ⌜ 1024 ≤ length (now t) ⌝ }
+    ensures { λ _. ⌜ now (t .exit) ≡ newTable (now (t .entry)) ⌝ }
+{
+    let mut i = 0;
+    while i < 1024 {
+        t[i] = 0;
+        i += 1;
     }
 }
 

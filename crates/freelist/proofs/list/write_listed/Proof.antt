@@ -8,7 +8,7 @@ use denote.Ref.{now}
 use lib.ListN.{length, length-set}
 use Rattle.field.specs.Run.{putAt}
 use Rattle.freelist.specs.Table.{isListed}
-use Rattle.freelist.specs.Freelist.{listing}
+use Rattle.freelist.specs.Freelist.{listing, pagesList}
 use Rattle.freelist.proofs.ListLaws.{listedFrom, listing-start, count-next, count-skip, write-next, write-skip, write-end}
 use Rattle.freelist.proofs.list.write_listed.Statement.{statement}
 use Rattle.freelist.proofs.list.write_listed.Tie as tie
@@ -87,6 +87,7 @@ same-length : tie.Need-same-length Inv-loop μ-loop
 same-length c = search needs
 
 returns : tie.Need-returns Inv-loop μ-loop
+unfolding pagesList
 returns c =
     let a = c .before .before .before .before .args in
     let l = c .before .loop in
