@@ -10,3 +10,6 @@ pub mod NumberLaws
 pub mod RunLaws
 pub mod AllocateLaws
 pub mod ListLaws
+pub mod StateAfter
+pub mod HandedOut
+pub mod Listing

@@ -11,10 +11,12 @@ use borrow.Author.Tests.{le-leb, lt-leb, leb-true}
 use lib.Arith.{digits-div}
 use lib.Dec.{leb}
 use Rattle.field.proofs.BitLaws.{lt-or-le}
+use Rattle.freelist.specs.declared.table.State.{State}
+use Rattle.freelist.specs.declared.table.State.the-variants.{InUse, Free, Pending, Broken}
 use Rattle.freelist.specs.Table.{stateOf, isFree}
 use Rattle.freelist.specs.Pages.{row, all, first}
-use Rattle.freelist.specs.Freelist.{run, lowest, pagesNeeded}
-use Rattle.freelist.proofs.PageLaws.{and-parts, row-next, row-none, in-row, all-row-of, all-not}
+use Rattle.freelist.specs.Freelist.{run, FreeRun, lowest, pagesNeeded}
+use Rattle.freelist.proofs.PageLaws.{clash, and-parts, row-next, row-none, in-row, all-row-of, all-row-at, all-not}
 
 -- ---- first, from p on and below n
 module _ (ok : ℕ → Bool) (none n : ℕ) where
@@ -76,6 +78,12 @@ first-law ok none (suc k) p = go (first-law ok none k (p + 1)) (ok p) refl
 
 abbrev free : List ℕ → ℕ → Bool
 free t k = isFree (stateOf t k)
+
+free-is : (s : State) → isFree s ≡ true → s ≡ Free
+free-is InUse e = absurd (clash e refl)
+free-is Free e = refl
+free-is (Pending x) e = absurd (clash e refl)
+free-is Broken e = absurd (clash e refl)
 
 module _ (t : List ℕ) (n pages : ℕ) where
   run-on : (s : ℕ) → s + pages ≤ n → ((j : ℕ) → s ≤ j → j < s + pages → free t j ≡ true) → run t n pages s ≡ true
@@ -154,9 +162,23 @@ module _ (t : List ℕ) (n pages : ℕ) where
   pub lowest-top : 2 ≤ n → n ≤ lowest t n pages → lowest t n pages ≡ n
   lowest-top l h = ⊎-elim (λ f. absurd (omega (arith, f .below))) (λ f. f .0) (lowest-law l)
 
-  pub lowest-fits : 2 ≤ n → lowest t n pages < n → lowest t n pages + pages ≤ n
+  -- a run, and the statement that it is one
+  pub run-free : (s : ℕ) → 2 ≤ s → run t n pages s ≡ true → FreeRun t n pages s
   unfolding run
-  lowest-fits l h = ⊎-elim (λ f. leb-true _ _ (and-parts (leb (lowest t n pages + pages) n) (all (free t) (row (lowest t n pages) pages)) (f .here) .0)) (λ f. absurd (omega (arith, f .0))) (lowest-law l)
+  run-free s l e =
+      let h = and-parts (leb (s + pages) n) (all (free t) (row s pages)) e in
+      (l, leb-true (s + pages) n (h .0), λ q a b. free-is (stateOf t q) (all-row-at (free t) s pages (h .1) q a b))
+
+  pub free-run : (s : ℕ) → FreeRun t n pages s → run t n pages s ≡ true
+  free-run s f = run-on s (f .1) (λ q a b. ap isFree (f .2 q a b))
+
+  -- below n there is one at the lowest place, and there is none lower
+  pub lowest-free : 2 ≤ n → lowest t n pages < n → FreeRun t n pages (lowest t n pages)
+  lowest-free l h = ⊎-elim (λ f. run-free (lowest t n pages) (f .from) (f .here)) (λ f. absurd (omega (arith, f .0))) (lowest-law l)
+
+  pub lowest-least : 2 ≤ n → (j : ℕ) → j < lowest t n pages → FreeRun t n pages j → ⊥
+  lowest-least l j h f =
+      clash (free-run j f) (⊎-elim (λ g. g .none j (f .0) h) (λ g. g .1 j (f .0) (omega (arith, g .0))) (lowest-law l))
 
 -- ---- pages needed: the bytes over the page size, rounded up
 module _ (bytes size : ℕ) (wide : 2 ≤ size) where

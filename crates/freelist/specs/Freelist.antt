@@ -1,8 +1,9 @@
 -- Freelist and allocation: for each call the number that it answers, and the table or the list that it leaves where that is 0.
 -- Assumes nothing.
+use mathlib.Core.Path.{_≡_}
 use mathlib.Core.List.{List}
 use mathlib.Core.Bool.{Bool, true, cond, _&&_, _||_}
-use Prim.Native.Nat.{ℕ, _+_, _-_, _*_, _/_, _%_}
+use Prim.Native.Nat.{ℕ, _+_, _-_, _*_, _/_, _%_, _≤_, _<_}
 use lib.Dec.{eqb, leb, ltb}
 use lib.ListN.{length, replicate}
 use Rattle.field.specs.Run.{putAt}
@@ -81,6 +82,10 @@ pagesNeeded bytes size = (bytes + (size - 1)) / size
 -- pages s to s + pages - 1 are inside 2 to n - 1 and all free
 unfoldable pub run : List ℕ → ℕ → ℕ → ℕ → Bool
 run t n pages s = leb (s + pages) n && all (λ k. isFree (stateOf t k)) (row s pages)
+
+-- the same, as a statement
+abbrev pub FreeRun : List ℕ → ℕ → ℕ → ℕ → Type 0
+FreeRun t n pages s = (2 ≤ s) × (s + pages ≤ n) × ((q : ℕ) → s ≤ q → q < s + pages → stateOf t q ≡ Free)
 
 -- the lowest s with such a run, and n where there is none
 unfoldable pub lowest : List ℕ → ℕ → ℕ → ℕ

@@ -7,7 +7,7 @@ use borrow.Author.Needs.{needs}
 use denote.Ref.{now}
 use Rattle.freelist.proofs.AnswerLaws.{kept}
 use Rattle.freelist.proofs.NumberLaws.{Requested, requested}
-use Rattle.freelist.proofs.RunLaws.{lowest-fits, needed-some}
+use Rattle.freelist.proofs.RunLaws.{lowest-free, needed-some}
 use Rattle.freelist.proofs.AllocateLaws.{request-refused, run-answer, growth-answer, full-answer, run-table, growth-table}
 use Rattle.freelist.proofs.allocate.Statement.{statement}
 use Rattle.freelist.proofs.allocate.Tie as tie
@@ -38,8 +38,8 @@ put-all-requires c κs =
     let a = c .before .before .before .before .before .before .before .before .before .args in
     let s = passed (c .before .before .before .before .before) .table in
     let e = c .before .before .lowest-run .ensures in
-    let f = lowest-fits (now (a .table)) (a .n) (c .before .before .before .before .pages-needed .result) (s .from) (omega (arith, c .before .if2 .taken)) in
-    (omega (arith, s .to), s .long)
+    let f = lowest-free (now (a .table)) (a .n) (c .before .before .before .before .pages-needed .result) (s .from) (omega (arith, c .before .if2 .taken)) in
+    (omega (arith, s .to, f .1), s .long)
 
 returns-2 : tie.Need-returns-2
 returns-2 c =
