@@ -50,7 +50,8 @@ pub enum Measured {
 
 // Makes a new table, all pages in use. A table too short for 32,768 pages is 1.
 pub fn new(table: &mut [u64]) -> Answer
-    ensures { λ r. ⌜ (r ≡ answerOf (newNumber (now (table .entry)))) × (now (table .exit) ≡ onDone (numberOf r) (newTable (now (table .entry))) (now (table .entry))) ⌝ }
+    ensures answer { λ r. ⌜ r ≡ answerOf (newNumber (now (table .entry))) ⌝ }
+    ensures lent { λ r. ⌜ now (table .exit) ≡ onDone (numberOf r) (newTable (now (table .entry))) (now (table .entry)) ⌝ }
 {
     if table.len() < 33792 {
         return Answer::Refused(1);
@@ -61,7 +62,8 @@ pub fn new(table: &mut [u64]) -> Answer
 
 // Frees the pages of the initial list, which rise strictly, each from 2 to n - 1 and in use, else 11.
 pub fn init(table: &mut [u64], n: u64, ids: &[u64]) -> Answer
-    ensures { λ r. ⌜ (r ≡ answerOf (initNumber (now (table .entry)) n (now (ids .entry)))) × (now (table .exit) ≡ onDone (numberOf r) (initTable (now (table .entry)) (now (ids .entry))) (now (table .entry))) ⌝ }
+    ensures answer { λ r. ⌜ r ≡ answerOf (initNumber (now (table .entry)) n (now (ids .entry))) ⌝ }
+    ensures lent { λ r. ⌜ now (table .exit) ≡ onDone (numberOf r) (initTable (now (table .entry)) (now (ids .entry))) (now (table .entry)) ⌝ }
 {
     let bad = init_number(table, n, ids);
     if bad != 0 {
@@ -73,7 +75,8 @@ pub fn init(table: &mut [u64], n: u64, ids: &[u64]) -> Answer
 
 // Makes `count` pages from `p` on pending under `tx`: at least one, all inside 2 to n - 1 and in use, else 11.
 pub fn free(table: &mut [u64], n: u64, p: u64, count: u64, tx: u64) -> Answer
-    ensures { λ r. ⌜ (r ≡ answerOf (freeNumber (now (table .entry)) n p count)) × (now (table .exit) ≡ onDone (numberOf r) (freeTable (now (table .entry)) p count tx) (now (table .entry))) ⌝ }
+    ensures answer { λ r. ⌜ r ≡ answerOf (freeNumber (now (table .entry)) n p count) ⌝ }
+    ensures lent { λ r. ⌜ now (table .exit) ≡ onDone (numberOf r) (freeTable (now (table .entry)) p count tx) (now (table .entry)) ⌝ }
 {
     let bad = free_number(table, n, p, count);
     if bad != 0 {
@@ -85,7 +88,8 @@ pub fn free(table: &mut [u64], n: u64, p: u64, count: u64, tx: u64) -> Answer
 
 // Frees every page that is pending under a number below `tx`.
 pub fn release(table: &mut [u64], n: u64, tx: u64) -> Answer
-    ensures { λ r. ⌜ (r ≡ answerOf (faultOf (now (table .entry)) n)) × (now (table .exit) ≡ onDone (numberOf r) (releaseTable (now (table .entry)) n tx) (now (table .entry))) ⌝ }
+    ensures answer { λ r. ⌜ r ≡ answerOf (faultOf (now (table .entry)) n) ⌝ }
+    ensures lent { λ r. ⌜ now (table .exit) ≡ onDone (numberOf r) (releaseTable (now (table .entry)) n tx) (now (table .entry)) ⌝ }
 {
     let bad = fault(table, n);
     if bad != 0 {
@@ -97,7 +101,8 @@ pub fn release(table: &mut [u64], n: u64, tx: u64) -> Answer
 
 // Hands out pages for `bytes`: the lowest run of free pages, or else pages from `n` on, by which the count grows; 12 past 32,768.
 pub fn allocate(table: &mut [u64], n: u64, page_size: u64, bytes: u64) -> Allocated
-    ensures { λ r. ⌜ (r ≡ allocateAnswer (now (table .entry)) n «page_size» bytes) × (now (table .exit) ≡ onDone (allocatedNumber r) (allocateTable (now (table .entry)) n «page_size» bytes) (now (table .entry))) ⌝ }
+    ensures answer { λ r. ⌜ r ≡ allocateAnswer (now (table .entry)) n «page_size» bytes ⌝ }
+    ensures lent { λ r. ⌜ now (table .exit) ≡ onDone (allocatedNumber r) (allocateTable (now (table .entry)) n «page_size» bytes) (now (table .entry)) ⌝ }
 {
     let bad = request_fault(table, n, page_size, bytes);
     if bad != 0 {
@@ -118,7 +123,8 @@ pub fn allocate(table: &mut [u64], n: u64, page_size: u64, bytes: u64) -> Alloca
 
 // Writes the free and pending ids, rising, from `ids[0]` on. A list too short for them is 10.
 pub fn pages(table: &[u64], n: u64, ids: &mut [u64]) -> Listed
-    ensures { λ r. ⌜ (r ≡ listedOf (pagesNumber (now (table .entry)) n (now (ids .entry))) (length (listing (now (table .entry)) n))) × (now (ids .exit) ≡ onDone (listedNumber r) (pagesList (now (table .entry)) n (now (ids .entry))) (now (ids .entry))) ⌝ }
+    ensures answer { λ r. ⌜ r ≡ listedOf (pagesNumber (now (table .entry)) n (now (ids .entry))) (length (listing (now (table .entry)) n)) ⌝ }
+    ensures lent { λ r. ⌜ now (ids .exit) ≡ onDone (listedNumber r) (pagesList (now (table .entry)) n (now (ids .entry))) (now (ids .entry)) ⌝ }
 {
     let bad = fault(table, n);
     if bad != 0 {
@@ -134,7 +140,7 @@ pub fn pages(table: &[u64], n: u64, ids: &mut [u64]) -> Listed
 
 // The size of the freelist: 40 plus 8 for each free or pending page.
 pub fn size(table: &[u64], n: u64) -> Measured
-    ensures { λ r. ⌜ r ≡ measuredOf (faultOf (now (table .entry)) n) (sizeOf (now (table .entry)) n) ⌝ }
+    ensures answer { λ r. ⌜ r ≡ measuredOf (faultOf (now (table .entry)) n) (sizeOf (now (table .entry)) n) ⌝ }
 {
     let bad = fault(table, n);
     if bad != 0 {

@@ -2,11 +2,11 @@
 ghost use mathlib.Core.Path.{_≡_};
 ghost use Prim.Native.Nat.{ℕ, _<_, _≤_};
 ghost use lib.ListN.{length, getD};
+ghost use Rattle.freelist.specs.Table.{isListed};
 ghost use Rattle.freelist.specs.Freelist.{initial, initNumber, initTable, listing, pagesList};
 use super::check::fault;
 use super::table::State;
 use super::table::is_in_use;
-use super::table::is_listed;
 use super::table::put_state;
 use super::table::state_of;
 
@@ -57,6 +57,18 @@ pub fn free_each(t: &mut [u64], ids: &[u64])
     while i < ids.len() {
         put_state(t, ids[i], State::Free);
         i += 1;
+    }
+}
+
+// Whether `s` is free or pending.
+fn is_listed(s: State) -> bool
+    ensures { λ r. ⌜ r ≡ isListed s ⌝ }
+{
+    match s {
+        State::InUse => false,
+        State::Free => true,
+        State::Pending(_) => true,
+        State::Broken => false,
     }
 }
 

@@ -2,9 +2,10 @@
 ghost use mathlib.Core.Path.{_≡_};
 ghost use Prim.Native.Nat.{_≤_};
 ghost use lib.ListN.{length};
+ghost use Rattle.freelist.specs.Table.{isFree};
 ghost use Rattle.freelist.specs.Freelist.{allowedSize, requestFault, pagesNeeded, lowest};
 use super::check::fault;
-use super::table::is_free;
+use super::table::State;
 use super::table::state_of;
 
 // Whether the page size is 1,024 to 65,536 and a multiple of 8.
@@ -46,6 +47,18 @@ pub fn pages_needed(bytes: u64, page_size: u64) -> u64
         return bytes / page_size;
     }
     bytes / page_size + 1
+}
+
+// Whether `s` is free.
+fn is_free(s: State) -> bool
+    ensures { λ r. ⌜ r ≡ isFree s ⌝ }
+{
+    match s {
+        State::InUse => false,
+        State::Free => true,
+        State::Pending(_) => false,
+        State::Broken => false,
+    }
 }
 
 // The lowest s with pages s to s + pages - 1 all free and inside 2 to n - 1, or else n: `len` free pages end before page i.

@@ -2,7 +2,7 @@
 ghost use mathlib.Core.Path.{_≡_};
 ghost use Prim.Native.Nat.{_<_, _≤_};
 ghost use lib.ListN.{length};
-ghost use Rattle.freelist.specs.Table.{bit, putBit, stateOf, isState, isInUse, isFree, isListed, freeBit, pendingBit, put};
+ghost use Rattle.freelist.specs.Table.{bit, putBit, stateOf, isInUse, freeBit, pendingBit, put};
 ghost use Rattle.freelist.specs.Freelist.{newTable};
 
 // A page's state. A page with both bits is in none of the three, which is `Broken`.
@@ -117,30 +117,6 @@ pub fn is_in_use(s: State) -> bool
         State::InUse => true,
         State::Free => false,
         State::Pending(_) => false,
-        State::Broken => false,
-    }
-}
-
-// Whether `s` is free.
-pub fn is_free(s: State) -> bool
-    ensures { λ r. ⌜ r ≡ isFree s ⌝ }
-{
-    match s {
-        State::InUse => false,
-        State::Free => true,
-        State::Pending(_) => false,
-        State::Broken => false,
-    }
-}
-
-// Whether `s` is free or pending.
-pub fn is_listed(s: State) -> bool
-    ensures { λ r. ⌜ r ≡ isListed s ⌝ }
-{
-    match s {
-        State::InUse => false,
-        State::Free => true,
-        State::Pending(_) => true,
         State::Broken => false,
     }
 }
