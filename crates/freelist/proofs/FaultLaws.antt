@@ -1,16 +1,16 @@
 -- What `faultOf` answers, and what it means that a table passes.
 -- Assumes nothing.
-use mathlib.Core.Path.{_≡_, refl, sym}
+use mathlib.Core.Path.{_≡_, sym}
 use mathlib.Core.List.{List}
-use mathlib.Core.Bool.{Bool, true, false, _&&_}
-use Prim.Native.Nat.{ℕ, zero, suc, _+_, _-_, _≤_, _<_}
+use mathlib.Core.Bool.{Bool, true}
+use Prim.Native.Nat.{ℕ, _-_, _≤_, _<_}
 use native.Mathlib.Omega.{arith}
 use borrow.Author.Tests.{le-leb, lt-leb, leb-true}
 use lib.Dec.{leb}
 use lib.ListN.{length}
 use Rattle.freelist.specs.Table.{stateOf, isState}
 use Rattle.freelist.specs.Pages.{all, pagesOf}
-use Rattle.freelist.specs.Answers.{_orElse_, _andThen_}
+use Rattle.freelist.specs.Answers.{_orElse_}
 use Rattle.freelist.specs.Freelist.{hasRoom, allowedCount, faultOf}
 use Rattle.freelist.proofs.AnswerLaws.{held, both-zero}
 use Rattle.freelist.proofs.PageLaws.{and-parts, all-row-of, all-row-at}

@@ -1,7 +1,7 @@
 -- What `allocate` hands out: pages that were free, the lowest run of them, or pages from n on where there is none; what it does to the
 -- state of every page; and that it is refused with 12 exactly when there is neither a run nor room. Assumes nothing.
 use mathlib.Core.Path.{_≡_, refl, sym, ap, _∙_}
-use mathlib.Core.Logic.{_↔_, _⊎_, inl, inr, ⊎-elim}
+use mathlib.Core.Logic.{_↔_, _⊎_, ⊎-elim}
 use mathlib.Core.List.{List}
 use mathlib.Core.Bool.{Bool, true, false, _&&_}
 use Prim.Native.Nat.{ℕ, zero, suc, _+_, _-_, _≤_, _<_}
@@ -10,17 +10,17 @@ use borrow.Author.Tests.{leb-true, leb-false, lt-leb}
 use lib.Dec.{leb}
 use lib.ListN.{getD}
 use Rattle.field.proofs.BitLaws.{lt-or-le}
-use Rattle.freelist.specs.declared.table.State.the-variants.{InUse, Free}
+use Rattle.freelist.specs.declared.table.State.the-variants.{InUse}
 use Rattle.freelist.specs.declared.Allocated.the-variants.{At, Refused}
 use Rattle.freelist.specs.Table.{stateOf, isState}
 use Rattle.freelist.specs.Pages.{_∈_, row, pagesOf, all, each}
-use Rattle.freelist.specs.Answers.{_orElse_, _andThen_, allocatedOf}
+use Rattle.freelist.specs.Answers.{_orElse_, _andThen_}
 use Rattle.freelist.specs.Freelist.{hasRoom, allowedCount, allowedSize, faultOf, requestFault, pagesNeeded, FreeRun, lowest, countAfter, allocateNumber, allocateAnswer, allocateTable}
 use Rattle.freelist.proofs.PageLaws.{in-row, row-in, rising-row}
 use Rattle.freelist.proofs.EachLaws.{each-in, each-out}
 use Rattle.freelist.proofs.AnswerLaws.{held, both-zero}
 use Rattle.freelist.proofs.NumberLaws.{Requested, requested}
-use Rattle.freelist.proofs.RunLaws.{lowest-law, lowest-top, lowest-free, lowest-least, run-free, needed-some}
+use Rattle.freelist.proofs.RunLaws.{lowest-top, lowest-free, lowest-least, needed-some}
 use Rattle.freelist.proofs.AllocateLaws.{after-run, after-growth}
 use Rattle.freelist.proofs.StateAfter.{each-stays, each-rest}
 
@@ -102,14 +102,14 @@ module _ (t : List ℕ) (n size bytes s m : ℕ) (answered : allocateAnswer t n 
   allocate-in q a b =
       ap (λ (u : List ℕ). stateOf u q) table-is
       ∙ each-in (λ s. InUse) s (row s (pagesNeeded bytes size)) t (handed t n size bytes s m answered .request .table .long) small
-          (rising-row s s (pagesNeeded bytes size) (omega arith)) q (in-row s (pagesNeeded bytes size) q a b)
+      (rising-row s s (pagesNeeded bytes size) (omega arith)) q (in-row s (pagesNeeded bytes size) q a b)
 
   -- and every other page is as it was
   pub allocate-out : (q : ℕ) → q < 32768 → (s ≤ q → q < s + pagesNeeded bytes size → ⊥) → stateOf (allocateTable t n size bytes) q ≡ stateOf t q
   allocate-out q l o =
       ap (λ (u : List ℕ). stateOf u q) table-is
       ∙ each-out (λ s. InUse) (row s (pagesNeeded bytes size)) t (handed t n size bytes s m answered .request .table .long) small q l
-          (λ i. let r = row-in s (pagesNeeded bytes size) q i in o (r .0) (r .1))
+      (λ i. let r = row-in s (pagesNeeded bytes size) q i in o (r .0) (r .1))
 
   pub allocate-stays : faultOf (allocateTable t n size bytes) m ≡ 0
   allocate-stays =
@@ -119,7 +119,7 @@ module _ (t : List ℕ) (n size bytes s m : ℕ) (answered : allocateAnswer t n 
       let p = handed-some in
       ap (λ (u : List ℕ). faultOf u m) table-is
       ∙ each-stays (λ s. InUse) s (row s (pagesNeeded bytes size)) t n m (handed t n size bytes s m answered .request .table) small
-          (rising-row s s (pagesNeeded bytes size) (omega arith)) (omega arith) (h .2) (λ q i a b. refl) old
+      (rising-row s s (pagesNeeded bytes size) (omega arith)) (omega arith) (h .2) (λ q i a b. refl) old
     where
       old : (q : ℕ) → (q ∈ row s (pagesNeeded bytes size) → ⊥) → q < m → q < n
       old q o l = ⊎-elim (λ f. omega (arith, handed-free f .1)) (λ f. beyond (handed-beyond f)) (lt-or-le s n)

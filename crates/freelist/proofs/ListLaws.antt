@@ -1,22 +1,21 @@
 -- A lent list of page numbers, from its element i on: what the loops over the initial list and the writer of the listing know.
 -- Assumes nothing.
 use mathlib.Core.Path.{_≡_, refl, sym, ap, _∙_}
-use mathlib.Core.List.{List, [], _∷_}
+use mathlib.Core.List.{List, _∷_}
 use mathlib.Core.Bool.{Bool, true, false, _&&_, and-false}
 use Prim.Native.Nat.{ℕ, suc, _+_, _-_, _≤_, _<_}
 use native.Mathlib.Numerals.{add-one}
 use native.Mathlib.Omega.{arith}
 use borrow.Author.Tests.{le-leb, lt-leb, lt-ltb, le-ltb}
-use lib.Dec.{leb, ltb}
-use lib.ListN.{length, getD, set, drop, length-set, drop-of-length-le}
+use lib.Dec.{ltb}
+use lib.ListN.{length, getD, set, drop, drop-of-length-le}
 use lib.Seq.{drop-cons}
 use Rattle.field.specs.Run.{putAt}
 use Rattle.field.proofs.RunLaws.{put-cons, put-nil}
-use Rattle.freelist.specs.declared.table.State.{State}
 use Rattle.freelist.specs.declared.table.State.the-variants.{Free}
 use Rattle.freelist.specs.Table.{stateOf, isInUse, isListed, put}
 use Rattle.freelist.specs.Pages.{row, all, keep, rising, each}
-use Rattle.freelist.specs.Freelist.{initial, initTable, listing}
+use Rattle.freelist.specs.Freelist.{initial, listing}
 use Rattle.freelist.proofs.PageLaws.{keep-next, keep-skip, keep-none, length-keep, length-row}
 
 -- from element i on

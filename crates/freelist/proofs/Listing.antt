@@ -10,8 +10,8 @@ use lib.ListN.{length, getD}
 use Rattle.freelist.specs.declared.Listed.the-variants as listed
 use Rattle.freelist.specs.declared.Measured.the-variants.{Bytes}
 use Rattle.freelist.specs.Table.{stateOf, isListed}
-use Rattle.freelist.specs.Pages.{_∈_, row, pagesOf, rising}
-use Rattle.freelist.specs.Answers.{_orElse_, _andThen_, listedOf, measuredOf}
+use Rattle.freelist.specs.Pages.{_∈_, pagesOf, rising}
+use Rattle.freelist.specs.Answers.{listedOf, measuredOf}
 use Rattle.freelist.specs.Freelist.{faultOf, listing, pagesNumber, sizeOf}
 use Rattle.freelist.proofs.PageLaws.{in-row, row-in, rising-row, rising-at, rising-keep, keep-iff}
 use Rattle.freelist.proofs.AnswerLaws.{both-zero}

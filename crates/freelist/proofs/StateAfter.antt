@@ -1,9 +1,9 @@
 -- What each call does to the state of every page, in its pages and out of them, that a table without fault stays one, and that the words
 -- past the table's 33,792 stay. Assumes nothing.
-use mathlib.Core.Path.{_≡_, refl, sym, ap, _∙_}
+use mathlib.Core.Path.{_≡_, refl, ap, _∙_}
 use mathlib.Core.Logic.{_⊎_, inl, inr, ⊎-elim}
 use mathlib.Core.List.{List, [], _∷_, _++_, List·Memᴰ·head, List·Memᴰ·tail, List·Memᴰ·cases-cons, List·Memᴰ·not-nil}
-use mathlib.Core.Bool.{Bool, true, false, cond, _&&_}
+use mathlib.Core.Bool.{Bool, true, false, cond}
 use Prim.Native.Nat.{ℕ, _+_, _-_, _/_, _%_, _^_, _≤_, _<_}
 use native.Mathlib.Nat.{zero-div}
 use native.Mathlib.Omega.{arith}
@@ -11,14 +11,14 @@ use borrow.Author.Tests.{leb-true}
 use lib.Dec.{eqb, leb, ltb}
 use lib.ListN.{length, getD, replicate, drop, length-replicate, getD-replicate, List·getD-append}
 use lib.Seq.{getD-append-add, getD-drop}
-use Rattle.field.proofs.BitLaws.{same-or, row-or}
+use Rattle.field.proofs.BitLaws.{same-or}
 use Rattle.field.proofs.RunLaws.{put-start, length-put}
 use Rattle.freelist.specs.declared.table.State.{State}
 use Rattle.freelist.specs.declared.table.State.the-variants.{InUse, Free, Pending, Broken}
 use Rattle.freelist.specs.Table.{bit, stateOf, isState}
 use Rattle.freelist.specs.Pages.{_∈_, row, pagesOf, rising, each}
 use Rattle.freelist.specs.Freelist.{hasRoom, allowedCount, faultOf, newNumber, newTable, initNumber, initTable, freeNumber, freeTable, ripe, releaseTable}
-use Rattle.freelist.proofs.PageLaws.{and-parts, in-row, row-in, rising-low, rising-row}
+use Rattle.freelist.proofs.PageLaws.{and-parts, in-row, row-in, rising-row}
 use Rattle.freelist.proofs.EachLaws.{length-each, each-in, each-out, each-word}
 use Rattle.freelist.proofs.AnswerLaws.{held}
 use Rattle.freelist.proofs.FaultLaws.{Passes, passes, no-fault}

@@ -5,6 +5,9 @@ ghost use lib.ListN.{length};
 ghost use Rattle.freelist.specs.Table.{stateOf, isState};
 ghost use Rattle.freelist.specs.Pages.{row, pagesOf, all};
 ghost use Rattle.freelist.specs.Freelist.{faultOf};
+use super::table::MOST_PAGES;
+use super::table::PENDING_WORDS;
+use super::table::TABLE_WORDS;
 
 // How many of the pages from `i` up to `n` share the word of page `i`.
 fn pages_in_word(i: u64, n: u64) -> u64
@@ -24,7 +27,7 @@ fn word_passes(t: &[u64], i: u64, k: u64) -> bool
     ensures { λ r. ⌜ r ≡ all (λ p. isState (stateOf (now (t .entry)) p)) (row i k) ⌝ }
 {
     let at = (i / 64) as usize;
-    let both = t[at] & t[512 + at];
+    let both = t[at] & t[PENDING_WORDS + at];
     (both >> (i % 64)) << (64 - k) == 0
 }
 
@@ -48,13 +51,13 @@ fn all_states(t: &[u64], n: u64) -> bool
 pub fn fault(t: &[u64], n: u64) -> u64
     ensures { λ r. ⌜ r ≡ faultOf (now (t .entry)) n ⌝ }
 {
-    if t.len() < 33792 {
+    if t.len() < TABLE_WORDS {
         return 1;
     }
     if n < 2 {
         return 1;
     }
-    if n > 32768 {
+    if n > MOST_PAGES {
         return 1;
     }
     if all_states(t, n) {

@@ -21,8 +21,15 @@ use row::release_all;
 use run::lowest_run;
 use run::pages_needed;
 use run::request_fault;
+use table::MOST_PAGES;
 pub use table::State;
+use table::TABLE_WORDS;
 use table::clear_bits;
+
+// The bytes of a page's header, and of an id in a freelist page.
+const HEADER_SIZE: u64 = 40;
+
+const PAGE_ID_SIZE: u64 = 8;
 
 // What `new`, `init`, `free` and `release` answer.
 pub enum Answer {
@@ -53,7 +60,7 @@ pub fn new(table: &mut [u64]) -> Answer
     ensures answer { λ r. ⌜ r ≡ answerOf (newNumber (now (table .entry))) ⌝ }
     ensures lent { λ r. ⌜ now (table .exit) ≡ onDone (numberOf r) (newTable (now (table .entry))) (now (table .entry)) ⌝ }
 {
-    if table.len() < 33792 {
+    if table.len() < TABLE_WORDS {
         return Answer::Refused(1);
     }
     clear_bits(table);
@@ -114,7 +121,7 @@ pub fn allocate(table: &mut [u64], n: u64, page_size: u64, bytes: u64) -> Alloca
         put_all(table, start, pages, State::InUse);
         return Allocated::At(start, n);
     }
-    if 32768 - n < pages {
+    if MOST_PAGES - n < pages {
         return Allocated::Refused(12);
     }
     put_all(table, n, pages, State::InUse);
@@ -146,5 +153,5 @@ pub fn size(table: &[u64], n: u64) -> Measured
     if bad != 0 {
         return Measured::Refused(bad);
     }
-    Measured::Bytes(40 + 8 * count_listed(table, n))
+    Measured::Bytes(HEADER_SIZE + PAGE_ID_SIZE * count_listed(table, n))
 }

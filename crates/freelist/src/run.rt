@@ -4,6 +4,7 @@ ghost use Prim.Native.Nat.{_≤_};
 ghost use lib.ListN.{length};
 ghost use Rattle.freelist.specs.Table.{isFree};
 ghost use Rattle.freelist.specs.Freelist.{allowedSize, requestFault, pagesNeeded, lowest};
+use super::HEADER_SIZE;
 use super::check::fault;
 use super::table::State;
 use super::table::state_of;
@@ -32,7 +33,7 @@ pub fn request_fault(t: &[u64], n: u64, page_size: u64, bytes: u64) -> u64
     if bad != 0 {
         return bad;
     }
-    if bytes < 40 {
+    if bytes < HEADER_SIZE {
         return 11;
     }
     0

@@ -5,6 +5,20 @@ ghost use lib.ListN.{length};
 ghost use Rattle.freelist.specs.Table.{bit, putBit, stateOf, isInUse, freeBit, pendingBit, put};
 ghost use Rattle.freelist.specs.Freelist.{newTable};
 
+// The most pages that a table has room for, and the words that it takes.
+pub const MOST_PAGES: u64 = 32768;
+
+pub const TABLE_WORDS: usize = 33792;
+
+// The words that hold bits; where the pending bits start, as a bit and as a word; and where the numbers start.
+const BIT_WORDS: usize = 1024;
+
+const PENDING_BITS: u64 = 32768;
+
+pub const PENDING_WORDS: usize = 512;
+
+const NUMBERS: u64 = 1024;
+
 // A page's state. A page with both bits is in none of the three, which is `Broken`.
 pub enum State {
     InUse,
@@ -43,7 +57,7 @@ pub fn clear_bits(t: &mut [u64])
     ensures { λ _. ⌜ now (t .exit) ≡ newTable (now (t .entry)) ⌝ }
 {
     let mut i = 0;
-    while i < 1024 {
+    while i < BIT_WORDS {
         t[i] = 0;
         i += 1;
     }
@@ -55,13 +69,13 @@ pub fn state_of(t: &[u64], k: u64) -> State
     ensures { λ r. ⌜ r ≡ stateOf (now (t .entry)) k ⌝ }
 {
     if bit_of(t, k) {
-        if bit_of(t, 32768 + k) {
+        if bit_of(t, PENDING_BITS + k) {
             return State::Broken;
         }
         return State::Free;
     }
-    if bit_of(t, 32768 + k) {
-        let at = (1024 + k) as usize;
+    if bit_of(t, PENDING_BITS + k) {
+        let at = (NUMBERS + k) as usize;
         return State::Pending(t[at]);
     }
     State::InUse
@@ -73,12 +87,12 @@ pub fn put_state(t: &mut [u64], p: u64, s: State)
     ensures { λ _. ⌜ now (t .exit) ≡ put (now (t .entry)) p s ⌝ }
 {
     put_bit(t, p, free_bit(s));
-    put_bit(t, 32768 + p, pending_bit(s));
+    put_bit(t, PENDING_BITS + p, pending_bit(s));
     match s {
         State::InUse => {}
         State::Free => {}
         State::Pending(x) => {
-            let at = (1024 + p) as usize;
+            let at = (NUMBERS + p) as usize;
             t[at] = x;
         }
         State::Broken => {}

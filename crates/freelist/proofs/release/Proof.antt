@@ -1,6 +1,6 @@
 -- `freelist::release` meets its contract. From the check and the loop.
 -- Assumes nothing.
-use mathlib.Core.Path.{refl, sym, _∙_}
+use mathlib.Core.Path.{sym, _∙_}
 use borrow.Author.Needs.{needs}
 use denote.Ref.{now}
 use Rattle.freelist.proofs.AnswerLaws.{refused, done, kept}

@@ -18,9 +18,6 @@ returns-2 c = let a = c .before .before .before .args in low (now (a .t)) (a .n)
 returns-3 : tie.Need-returns-3
 returns-3 c = let a = c .before .before .before .before .args in high (now (a .t)) (a .n) (omega arith) (omega arith) (omega arith)
 
-all-states-requires : tie.Need-all-states-requires
-all-states-requires c κs = search needs
-
 returns-4 : tie.Need-returns-4
 returns-4 c =
     let a = c .before .before .before .before .before .before .args in asked (now (a .t)) (a .n) (omega arith) (omega arith) (omega arith) true (sym (c .before .all-states .ensures) ∙ c .if4 .taken)
@@ -31,4 +28,4 @@ returns-5 c =
 
 pub fault-spec : {M : Type 1} → statement M
 fault-spec =
-    tie.close (tie.spec returns returns-2 returns-3 all-states-requires returns-4 returns-5)
+    tie.close (tie.spec returns returns-2 returns-3 (λ c κs. search needs) returns-4 returns-5)

@@ -21,20 +21,8 @@ abbrev μ-loop : tie.MeasureT-loop
 loop-holds : tie.Need-loop-holds Inv-loop μ-loop
 loop-holds c = let a = c .before .args in omega (arith, ap length (listing-start (now (a .t)) (a .n)))
 
-state-of-requires : tie.Need-state-of-requires Inv-loop μ-loop
-state-of-requires c κs = search needs
-
-is-listed-requires : tie.Need-is-listed-requires Inv-loop μ-loop
-is-listed-requires c κs = search needs
-
 add-count : tie.Need-add-count Inv-loop μ-loop
 add-count c = let a = c .before .before .before .before .before .before .args in omega (arith, listing-few (now (a .t)) (a .n))
-
-add-i : tie.Need-add-i Inv-loop μ-loop
-add-i c = search needs
-
-loop-less : tie.Need-loop-less Inv-loop μ-loop
-loop-less c = search needs
 
 loop-again : tie.Need-loop-again Inv-loop μ-loop
 loop-again c =
@@ -42,12 +30,6 @@ loop-again c =
     let l = c .before .before .before .before .loop in
     let e = ap isListed (sym (c .before .before .state-of .ensures)) ∙ sym (c .before .is-listed .ensures) ∙ c .if1 .taken in
     omega (arith, l .inv, count-next (now (a .t)) (a .n) (l .i) (c .before .before .before .loop-test .taken) e)
-
-add-i-2 : tie.Need-add-i-2 Inv-loop μ-loop
-add-i-2 c = search needs
-
-loop-less-2 : tie.Need-loop-less-2 Inv-loop μ-loop
-loop-less-2 c = search needs
 
 loop-again-2 : tie.Need-loop-again-2 Inv-loop μ-loop
 loop-again-2 c =
@@ -70,13 +52,13 @@ count-listed-spec =
     Inv-loop
     μ-loop
     loop-holds
-    state-of-requires
-    is-listed-requires
+    (λ c κs. search needs)
+    (λ c κs. search needs)
     add-count
-    add-i
-    loop-less
+    (λ c. search needs)
+    (λ c. search needs)
     loop-again
-    add-i-2
-    loop-less-2
+    (λ c. search needs)
+    (λ c. search needs)
     loop-again-2
     returns)

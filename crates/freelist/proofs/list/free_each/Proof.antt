@@ -23,24 +23,12 @@ loop-holds : tie.Need-loop-holds Inv-loop μ-loop
 unfolding initTable
 loop-holds c = (refl, refl)
 
-mul-put-state : tie.Need-mul-put-state Inv-loop μ-loop
-mul-put-state c = search needs
-
-shared-slice-read-put-state : tie.Need-shared-slice-read-put-state Inv-loop μ-loop
-shared-slice-read-put-state c = search needs
-
 put-state-requires : tie.Need-put-state-requires Inv-loop μ-loop
 put-state-requires c κs =
     let s = c .before .before .before .before .before .before in
     let l = c .before .before .before .loop in
     let e = l .inv .0 in
     (s .pre .0 (l .i) (c .before .before .loop-test .taken), omega (arith, s .pre .1))
-
-add-i : tie.Need-add-i Inv-loop μ-loop
-add-i c = search needs
-
-loop-less : tie.Need-loop-less Inv-loop μ-loop
-loop-less c = search needs
 
 loop-again : tie.Need-loop-again Inv-loop μ-loop
 loop-again c =
@@ -50,9 +38,6 @@ loop-again c =
       ap (each (λ s. Free) (drop (l .i + 1) (now (a .ids)))) (c .before .before .put-state .ensures)
           ∙ sym (free-next (now (a .ids)) (l .t) (l .i) (c .before .before .before .before .before .loop-test .taken)) ∙ l .inv .1,
     )
-
-same-length : tie.Need-same-length Inv-loop μ-loop
-same-length c = search needs
 
 returns : tie.Need-returns Inv-loop μ-loop
 returns c =
@@ -67,11 +52,11 @@ free-each-spec =
     Inv-loop
     μ-loop
     loop-holds
-    mul-put-state
-    shared-slice-read-put-state
+    (λ c. search needs)
+    (λ c. search needs)
     put-state-requires
-    add-i
-    loop-less
+    (λ c. search needs)
+    (λ c. search needs)
     loop-again
-    same-length
+    (λ c. search needs)
     returns)

@@ -1,7 +1,7 @@
 -- `freelist::list::is_initial` meets its contract. The loop's invariant: what is asked of all the ids is what is left to ask from element i on.
 -- Assumes nothing.
 use mathlib.Core.Path.{_≡_, sym, ap, _∙_}
-use Prim.Native.Nat.{_-_, _≤_}
+use Prim.Native.Nat.{_-_}
 use native.Mathlib.Omega.{arith}
 use borrow.Author.Needs.{needs}
 use borrow.Author.Tests.{not-true, not-false}
@@ -22,12 +22,6 @@ abbrev μ-loop : tie.MeasureT-loop
 loop-holds : tie.Need-loop-holds Inv-loop μ-loop
 loop-holds c = let a = c .before .before .args in initial-start (now (a .t)) (a .n) (now (a .ids))
 
-mul-id : tie.Need-mul-id Inv-loop μ-loop
-mul-id c = search needs
-
-shared-slice-read-id : tie.Need-shared-slice-read-id Inv-loop μ-loop
-shared-slice-read-id c = search needs
-
 returns : tie.Need-returns Inv-loop μ-loop
 returns c =
     let a = c .before .before .before .before .before .before .args in
@@ -40,27 +34,12 @@ returns-2 c =
     let l = c .before .before .before .before .loop in
     sym (l .inv ∙ initial-high (now (a .t)) (a .n) (now (a .ids)) (l .low) (l .i) (omega arith) (c .if2 .taken))
 
-state-of-requires : tie.Need-state-of-requires Inv-loop μ-loop
-state-of-requires c κs = search needs
-
-is-in-use-requires : tie.Need-is-in-use-requires Inv-loop μ-loop
-is-in-use-requires c κs = search needs
-
 returns-3 : tie.Need-returns-3 Inv-loop μ-loop
 returns-3 c =
     let a = c .before .before .before .before .before .before .before .before .before .before .args in
     let l = c .before .before .before .before .before .before .before .loop in
     let e = ap isInUse (sym (c .before .before .state-of .ensures)) ∙ sym (c .before .is-in-use .ensures) ∙ not-true _ (c .if3 .taken) in
     sym (l .inv ∙ initial-taken (now (a .t)) (a .n) (now (a .ids)) (l .low) (l .i) (omega arith) (c .before .before .before .if2 .left) e)
-
-add-low : tie.Need-add-low Inv-loop μ-loop
-add-low c = search needs
-
-add-i : tie.Need-add-i Inv-loop μ-loop
-add-i c = search needs
-
-loop-less : tie.Need-loop-less Inv-loop μ-loop
-loop-less c = search needs
 
 loop-again : tie.Need-loop-again Inv-loop μ-loop
 loop-again c =
@@ -82,15 +61,15 @@ is-initial-spec =
     Inv-loop
     μ-loop
     loop-holds
-    mul-id
-    shared-slice-read-id
+    (λ c. search needs)
+    (λ c. search needs)
     returns
     returns-2
-    state-of-requires
-    is-in-use-requires
+    (λ c κs. search needs)
+    (λ c κs. search needs)
     returns-3
-    add-low
-    add-i
-    loop-less
+    (λ c. search needs)
+    (λ c. search needs)
+    (λ c. search needs)
     loop-again
     returns-4)

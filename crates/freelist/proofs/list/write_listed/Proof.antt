@@ -26,15 +26,6 @@ loop-holds c =
     let e = listing-start (now (a .t)) (a .n) in
     (refl, omega (arith, ap length e), ap (putAt (now (a .ids)) 0) (sym e))
 
-state-of-requires : tie.Need-state-of-requires Inv-loop μ-loop
-state-of-requires c κs = search needs
-
-is-listed-requires : tie.Need-is-listed-requires Inv-loop μ-loop
-is-listed-requires c κs = search needs
-
-mul-ids : tie.Need-mul-ids Inv-loop μ-loop
-mul-ids c = search needs
-
 -- the page is listed, so that there is room for it
 room : (c : tie.Then1 Inv-loop μ-loop) → c .before .before .before .before .loop .at + 1 ≤ length (c .before .before .before .before .loop .ids)
 room c =
@@ -49,12 +40,6 @@ slice-write-ids c = omega (arith, room c)
 add-at : tie.Need-add-at Inv-loop μ-loop
 add-at c = omega (arith, room c)
 
-add-i : tie.Need-add-i Inv-loop μ-loop
-add-i c = search needs
-
-loop-less : tie.Need-loop-less Inv-loop μ-loop
-loop-less c = search needs
-
 loop-again : tie.Need-loop-again Inv-loop μ-loop
 loop-again c =
     let a = c .before .before .before .before .before .before .before .args in
@@ -66,12 +51,6 @@ loop-again c =
       write-next (now (a .t)) (a .n) (l .i) b (l .ids) (l .at) (omega (arith, room c)) e ∙ l .inv .2,
     )
 
-add-i-2 : tie.Need-add-i-2 Inv-loop μ-loop
-add-i-2 c = search needs
-
-loop-less-2 : tie.Need-loop-less-2 Inv-loop μ-loop
-loop-less-2 c = search needs
-
 loop-again-2 : tie.Need-loop-again-2 Inv-loop μ-loop
 loop-again-2 c =
     let a = c .before .before .before .before .before .before .before .args in
@@ -82,9 +61,6 @@ loop-again-2 c =
       omega (arith, l .inv .1, count-skip (now (a .t)) (a .n) (l .i) b e),
       write-skip (now (a .t)) (a .n) (l .i) b (l .ids) (l .at) e ∙ l .inv .2,
     )
-
-same-length : tie.Need-same-length Inv-loop μ-loop
-same-length c = search needs
 
 returns : tie.Need-returns Inv-loop μ-loop
 unfolding pagesList
@@ -100,16 +76,16 @@ write-listed-spec =
     Inv-loop
     μ-loop
     loop-holds
-    state-of-requires
-    is-listed-requires
-    mul-ids
+    (λ c κs. search needs)
+    (λ c κs. search needs)
+    (λ c. search needs)
     slice-write-ids
     add-at
-    add-i
-    loop-less
+    (λ c. search needs)
+    (λ c. search needs)
     loop-again
-    add-i-2
-    loop-less-2
+    (λ c. search needs)
+    (λ c. search needs)
     loop-again-2
-    same-length
+    (λ c. search needs)
     returns)

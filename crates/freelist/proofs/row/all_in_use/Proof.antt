@@ -19,19 +19,10 @@ Inv-loop t p count end i₀ i = (p ≤ i) × (all (λ k. isInUse (stateOf t k)) 
 abbrev μ-loop : tie.MeasureT-loop
 μ-loop t p count end i₀ i = end - i
 
-add-end : tie.Need-add-end Inv-loop μ-loop
-add-end c = search needs
-
 loop-holds : tie.Need-loop-holds Inv-loop μ-loop
 loop-holds c =
     let a = c .before .args in
     (omega arith, ap (λ (x : ℕ). all (λ k. isInUse (stateOf (now (a .t)) k)) (row (a .p) x)) (sym (add-sub-cancel-left (a .p) (a .count))))
-
-state-of-requires : tie.Need-state-of-requires Inv-loop μ-loop
-state-of-requires c κs = search needs
-
-is-in-use-requires : tie.Need-is-in-use-requires Inv-loop μ-loop
-is-in-use-requires c κs = search needs
 
 returns : tie.Need-returns Inv-loop μ-loop
 returns c =
@@ -39,12 +30,6 @@ returns c =
     let l = c .before .before .before .before .loop in
     sym (l .inv .1 ∙ all-stop (λ k. isInUse (stateOf (now (a .t)) k)) (l .i) (a .p + a .count) (c .before .before .before .loop-test .taken)
     (ap isInUse (sym (c .before .before .state-of .ensures)) ∙ sym (c .before .is-in-use .ensures) ∙ not-true _ (c .if1 .taken)))
-
-add-i : tie.Need-add-i Inv-loop μ-loop
-add-i c = search needs
-
-loop-less : tie.Need-loop-less Inv-loop μ-loop
-loop-less c = search needs
 
 loop-again : tie.Need-loop-again Inv-loop μ-loop
 loop-again c =
@@ -67,12 +52,12 @@ all-in-use-spec =
     (tie.spec
     Inv-loop
     μ-loop
-    add-end
+    (λ c. search needs)
     loop-holds
-    state-of-requires
-    is-in-use-requires
+    (λ c κs. search needs)
+    (λ c κs. search needs)
     returns
-    add-i
-    loop-less
+    (λ c. search needs)
+    (λ c. search needs)
     loop-again
     returns-2)

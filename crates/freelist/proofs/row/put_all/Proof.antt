@@ -18,22 +18,10 @@ Inv-loop t₀ p count s end i₀ t i = (length t ≡ length t₀) × (p ≤ i) �
 abbrev μ-loop : tie.MeasureT-loop
 μ-loop t₀ p count s end i₀ t i = end - i
 
-add-end : tie.Need-add-end Inv-loop μ-loop
-add-end c = search needs
-
 loop-holds : tie.Need-loop-holds Inv-loop μ-loop
 loop-holds c =
     let a = c .before .args in
     (refl, omega arith, ap (λ (x : ℕ). each (λ old. a .s) (row (a .p) x) (now (a .t))) (add-sub-cancel-left (a .p) (a .count)))
-
-put-state-requires : tie.Need-put-state-requires Inv-loop μ-loop
-put-state-requires c κs = search needs
-
-add-i : tie.Need-add-i Inv-loop μ-loop
-add-i c = search needs
-
-loop-less : tie.Need-loop-less Inv-loop μ-loop
-loop-less c = search needs
 
 loop-again : tie.Need-loop-again Inv-loop μ-loop
 loop-again c =
@@ -45,9 +33,6 @@ loop-again c =
       ap (each (λ old. a .s) (row (l .i + 1) (e - (l .i + 1)))) (c .before .before .put-state .ensures)
           ∙ sym (each-next (λ old. a .s) (l .i) e (l .t) (c .before .before .before .before .loop-test .taken)) ∙ l .inv .2,
     )
-
-same-length : tie.Need-same-length Inv-loop μ-loop
-same-length c = search needs
 
 returns : tie.Need-returns Inv-loop μ-loop
 returns c =
@@ -61,11 +46,11 @@ put-all-spec =
     (tie.spec
     Inv-loop
     μ-loop
-    add-end
+    (λ c. search needs)
     loop-holds
-    put-state-requires
-    add-i
-    loop-less
+    (λ c κs. search needs)
+    (λ c. search needs)
+    (λ c. search needs)
     loop-again
-    same-length
+    (λ c. search needs)
     returns)

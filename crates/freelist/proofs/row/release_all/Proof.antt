@@ -21,15 +21,6 @@ loop-holds : tie.Need-loop-holds Inv-loop μ-loop
 unfolding releaseTable
 loop-holds c = (refl, omega arith, refl)
 
-release-page-requires : tie.Need-release-page-requires Inv-loop μ-loop
-release-page-requires c κs = search needs
-
-add-i : tie.Need-add-i Inv-loop μ-loop
-add-i c = search needs
-
-loop-less : tie.Need-loop-less Inv-loop μ-loop
-loop-less c = search needs
-
 loop-again : tie.Need-loop-again Inv-loop μ-loop
 loop-again c =
     let a = c .before .before .before .before .before .before .before .args in
@@ -39,9 +30,6 @@ loop-again c =
       ap (each (ripe (a .tx)) (row (l .i + 1) (a .n - (l .i + 1)))) (c .before .before .release-page .ensures)
           ∙ sym (each-next (ripe (a .tx)) (l .i) (a .n) (l .t) (c .before .before .before .before .loop-test .taken)) ∙ l .inv .2,
     )
-
-same-length : tie.Need-same-length Inv-loop μ-loop
-same-length c = search needs
 
 returns : tie.Need-returns Inv-loop μ-loop
 returns c =
@@ -56,9 +44,9 @@ release-all-spec =
     Inv-loop
     μ-loop
     loop-holds
-    release-page-requires
-    add-i
-    loop-less
+    (λ c κs. search needs)
+    (λ c. search needs)
+    (λ c. search needs)
     loop-again
-    same-length
+    (λ c. search needs)
     returns)

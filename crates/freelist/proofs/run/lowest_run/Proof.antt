@@ -20,30 +20,12 @@ abbrev μ-loop : tie.MeasureT-loop
 loop-holds : tie.Need-loop-holds Inv-loop μ-loop
 loop-holds c = let a = c .before .args in scan-start (now (a .t)) (a .n) (a .pages) (omega arith) (omega arith)
 
-state-of-requires : tie.Need-state-of-requires Inv-loop μ-loop
-state-of-requires c κs = search needs
-
-is-free-requires : tie.Need-is-free-requires Inv-loop μ-loop
-is-free-requires c κs = search needs
-
-add-i : tie.Need-add-i Inv-loop μ-loop
-add-i c = search needs
-
-add-len : tie.Need-add-len Inv-loop μ-loop
-add-len c = search needs
-
-sub-result : tie.Need-sub-result Inv-loop μ-loop
-sub-result c = search needs
-
 returns : tie.Need-returns Inv-loop μ-loop
 returns c =
     let a = c .before .before .before .before .before .before .before .args in
     let l = c .before .before .before .before .before .loop in
     scan-found (now (a .t)) (a .n) (a .pages) (l .i) (l .len) (l .inv) (c .before .before .before .before .loop-test .taken)
     (ap isFree (sym (c .before .before .before .state-of .ensures)) ∙ sym (c .before .before .is-free .ensures) ∙ c .before .if1 .taken) (c .if2 .taken)
-
-loop-less : tie.Need-loop-less Inv-loop μ-loop
-loop-less c = search needs
 
 loop-again : tie.Need-loop-again Inv-loop μ-loop
 loop-again c =
@@ -53,12 +35,6 @@ loop-again c =
     let n = c .if2 .left in
     scan-longer (now (a .t)) (a .n) (a .pages) (l .i) (l .len) (l .inv) (c .before .before .before .before .loop-test .taken)
     (ap isFree (sym (c .before .before .before .state-of .ensures)) ∙ sym (c .before .before .is-free .ensures) ∙ c .before .if1 .taken) (lt-of-le-ne (omega arith) n)
-
-add-i-2 : tie.Need-add-i-2 Inv-loop μ-loop
-add-i-2 c = search needs
-
-loop-less-2 : tie.Need-loop-less-2 Inv-loop μ-loop
-loop-less-2 c = search needs
 
 loop-again-2 : tie.Need-loop-again-2 Inv-loop μ-loop
 loop-again-2 c =
@@ -80,15 +56,15 @@ lowest-run-spec =
     Inv-loop
     μ-loop
     loop-holds
-    state-of-requires
-    is-free-requires
-    add-i
-    add-len
-    sub-result
+    (λ c κs. search needs)
+    (λ c κs. search needs)
+    (λ c. search needs)
+    (λ c. search needs)
+    (λ c. search needs)
     returns
-    loop-less
+    (λ c. search needs)
     loop-again
-    add-i-2
-    loop-less-2
+    (λ c. search needs)
+    (λ c. search needs)
     loop-again-2
     returns-2)

@@ -6,17 +6,8 @@ use Rattle.freelist.proofs.RunLaws.{needed-exact, needed-more, needed-f
 use Rattle.freelist.proofs.run.pages_needed.Statement.{statement}
 use Rattle.freelist.proofs.run.pages_needed.Tie as tie
 
-rem-if1 : tie.Need-rem-if1
-rem-if1 c = search needs
-
-div-result : tie.Need-div-result
-div-result c = search needs
-
 returns : tie.Need-returns
 returns c = let s = c .before in needed-exact (s .args .bytes) (s .args .page-size) (s .pre) (c .if1 .taken)
-
-div-result-2 : tie.Need-div-result-2
-div-result-2 c = search needs
 
 add-result : tie.Need-add-result
 add-result c = let s = c .before in omega (arith, needed-fits (s .args .bytes) (s .args .page-size) (s .pre) (c .if1 .left))
@@ -26,4 +17,4 @@ returns-2 c = let s = c .before in needed-more (s .args .bytes) (s .args .page-s
 
 pub pages-needed-spec : {M : Type 1} → statement M
 pages-needed-spec =
-    tie.close (tie.spec rem-if1 div-result returns div-result-2 add-result returns-2)
+    tie.close (tie.spec (λ c. search needs) (λ c. search needs) returns (λ c. search needs) add-result returns-2)

@@ -6,18 +6,9 @@ use borrow.Author.Needs.{needs}
 use Rattle.freelist.proofs.table.bit_of.Statement.{statement}
 use Rattle.freelist.proofs.table.bit_of.Tie as tie
 
-mul-result : tie.Need-mul-result
-mul-result c = search needs
-
-shared-slice-read-result : tie.Need-shared-slice-read-result
-shared-slice-read-result c = search needs
-
-shr-result : tie.Need-shr-result
-shr-result c = search needs
-
 returns : tie.Need-returns
 unfolding bit
 returns c = refl
 
 pub bit-of-spec : {M : Type 1} → statement M
-bit-of-spec = tie.close (tie.spec mul-result shared-slice-read-result shr-result returns)
+bit-of-spec = tie.close (tie.spec (λ c. search needs) (λ c. search needs) (λ c. search needs) returns)
