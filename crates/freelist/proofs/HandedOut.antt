@@ -10,7 +10,7 @@ use borrow.Author.Tests.{leb-true, leb-false, lt-leb}
 use lib.Dec.{leb}
 use lib.ListN.{getD}
 use Rattle.field.proofs.BitLaws.{lt-or-le}
-use Rattle.freelist.specs.declared.table.State.the-variants.{InUse}
+use Rattle.freelist.specs.declared.table.State.the-variants.{InUse, Free}
 use Rattle.freelist.specs.declared.Allocated.the-variants.{At, Refused}
 use Rattle.freelist.specs.Table.{stateOf, isState}
 use Rattle.freelist.specs.Pages.{_∈_, row, pagesOf, all, each}
@@ -131,6 +131,13 @@ module _ (t : List ℕ) (n size bytes s m : ℕ) (answered : allocateAnswer t n 
   allocate-rest i l =
       ap (λ (u : List ℕ). getD u i 0) table-is
       ∙ each-rest (λ s. InUse) (row s (pagesNeeded bytes size)) t (handed t n size bytes s m answered .request .table .long) small i l
+
+-- ---- with no page free there is no run
+pub none-free : (t : List ℕ) (n pages : ℕ) → 2 ≤ n → 1 ≤ pages → ((q : ℕ) → 2 ≤ q → q < n → stateOf t q ≡ Free → ⊥) → lowest t n pages ≡ n
+none-free t n pages l some h = ⊎-elim (λ b. absurd (found b (lowest-free t n pages l b))) (lowest-top t n pages l) (lt-or-le (lowest t n pages) n)
+  where
+    found : lowest t n pages < n → FreeRun t n pages (lowest t n pages) → ⊥
+    found b f = h (lowest t n pages) (f .0) b (f .2 (lowest t n pages) (omega arith) (omega arith))
 
 -- ---- 12, exactly when there is neither a run nor room
 

@@ -31,42 +31,50 @@ abbrev pub onDone : ℕ → List ℕ → List ℕ → List ℕ
 onDone zero new old = new
 onDone (suc c) new old = old
 
--- ---- done, or refused
+-- ---- `new`, `init`, `free` and `release`
 
+-- what is answered for a number
 abbrev pub answerOf : ℕ → Answer
 answerOf zero = answer.Done
 answerOf (suc c) = answer.Refused (suc c)
 
+-- the number of an answer
 abbrev pub numberOf : Answer → ℕ
 numberOf answer.Done = 0
 numberOf (answer.Refused c) = c
 
--- ---- the first page handed out and the count of pages from then on, or refused
+-- ---- `allocate`
 
+-- what is answered for a number, the first page handed out and the count of pages from then on
 abbrev pub allocatedOf : ℕ → ℕ → ℕ → Allocated
 allocatedOf zero s m = allocated.At s m
 allocatedOf (suc c) s m = allocated.Refused (suc c)
 
+-- the number of that answer
 abbrev pub allocatedNumber : Allocated → ℕ
 allocatedNumber (allocated.At s m) = 0
 allocatedNumber (allocated.Refused c) = c
 
--- ---- how many ids were written, or refused
+-- ---- `pages`
 
+-- what is answered for a number and how many ids were written
 abbrev pub listedOf : ℕ → ℕ → Listed
 listedOf zero k = listed.Count k
 listedOf (suc c) k = listed.Refused (suc c)
 
+-- the number of that answer
 abbrev pub listedNumber : Listed → ℕ
 listedNumber (listed.Count k) = 0
 listedNumber (listed.Refused c) = c
 
--- ---- how many bytes, or refused
+-- ---- `size`
 
+-- what is answered for a number and a size in bytes
 abbrev pub measuredOf : ℕ → ℕ → Measured
 measuredOf zero k = measured.Bytes k
 measuredOf (suc c) k = measured.Refused (suc c)
 
+-- the number of that answer
 abbrev pub measuredNumber : Measured → ℕ
 measuredNumber (measured.Bytes k) = 0
 measuredNumber (measured.Refused c) = c

@@ -32,44 +32,54 @@ allowedSize size = leb 1024 size && (leb size 65536 && eqb (size % 8) 0)
 unfoldable pub faultOf : List ℕ → ℕ → ℕ
 faultOf t n = (hasRoom t && allowedCount n) orElse 1 andThen all (λ k. isState (stateOf t k)) (pagesOf n) orElse 11
 
--- ---- a new table: all pages in use
+-- ---- a new table
 
+-- a table too short is 1
 unfoldable pub newNumber : List ℕ → ℕ
 newNumber t = hasRoom t orElse 1
 
+-- all pages are in use: no bit is on, and every other word stays
 unfoldable pub newTable : List ℕ → List ℕ
 newTable t = putAt t 0 (replicate 1024 0)
 
--- ---- the initial list: strictly rising, each from 2 to n - 1 and in use; each becomes free
+-- ---- the initial list
 
+-- strictly rising, each from 2 to n - 1 and in use
 unfoldable pub initial : List ℕ → ℕ → List ℕ → Bool
 initial t n ids = rising 2 ids && all (λ p. ltb p n && isInUse (stateOf t p)) ids
 
+-- else 11
 unfoldable pub initNumber : List ℕ → ℕ → List ℕ → ℕ
 initNumber t n ids = faultOf t n andThen initial t n ids orElse 11
 
+-- each becomes free
 unfoldable pub initTable : List ℕ → List ℕ → List ℕ
 initTable t ids = each (λ s. Free) ids t
 
--- ---- free: `count` pages from p on, at least 1, all inside 2 to n - 1 and in use, become pending under tx
+-- ---- free
 
+-- pages p to p + count - 1 are at least 1, and all inside 2 to n - 1
 unfoldable pub inside : ℕ → ℕ → ℕ → Bool
 inside n p count = leb 1 count && (leb 2 p && leb (p + count) n)
 
+-- and they are all in use, else 11
 unfoldable pub freeNumber : List ℕ → ℕ → ℕ → ℕ → ℕ
 freeNumber t n p count = faultOf t n andThen (inside n p count && all (λ k. isInUse (stateOf t k)) (row p count)) orElse 11
 
+-- they become pending under tx
 unfoldable pub freeTable : List ℕ → ℕ → ℕ → ℕ → List ℕ
 freeTable t p count tx = each (λ s. Pending tx) (row p count) t
 
--- ---- release: everything pending under a number below tx becomes free
+-- ---- release
 
+-- a page that is pending under a number below tx becomes free
 abbrev pub ripe : ℕ → State → State
 ripe tx InUse = InUse
 ripe tx Free = Free
 ripe tx (Pending x) = cond (ltb x tx) Free (Pending x)
 ripe tx Broken = Broken
 
+-- everything from page 2 to n - 1
 unfoldable pub releaseTable : List ℕ → ℕ → ℕ → List ℕ
 releaseTable t n tx = each (ripe tx) (pagesOf n) t
 
@@ -108,15 +118,17 @@ unfoldable pub allocateAnswer : List ℕ → ℕ → ℕ → ℕ → Allocated
 allocateAnswer t n size bytes =
     allocatedOf (allocateNumber t n size bytes) (lowest t n (pagesNeeded bytes size)) (countAfter t n (pagesNeeded bytes size))
 
--- they are in use
+-- they become in use
 unfoldable pub allocateTable : List ℕ → ℕ → ℕ → ℕ → List ℕ
 allocateTable t n size bytes = each (λ s. InUse) (row (lowest t n (pagesNeeded bytes size)) (pagesNeeded bytes size)) t
 
--- ---- listing: free and pending ids, rising; a list too short for them is 10
+-- ---- listing
 
+-- the free and pending ids, rising
 unfoldable pub listing : List ℕ → ℕ → List ℕ
 listing t n = keep (λ k. isListed (stateOf t k)) (pagesOf n)
 
+-- a list too short for them is 10
 unfoldable pub pagesNumber : List ℕ → ℕ → List ℕ → ℕ
 pagesNumber t n ids = faultOf t n andThen leb (length (listing t n)) (length ids) orElse 10
 
@@ -124,7 +136,8 @@ pagesNumber t n ids = faultOf t n andThen leb (length (listing t n)) (length ids
 unfoldable pub pagesList : List ℕ → ℕ → List ℕ → List ℕ
 pagesList t n ids = putAt ids 0 (listing t n)
 
--- ---- size: 40 plus 8 for each
+-- ---- size
 
+-- 40 plus 8 for each of them
 unfoldable pub sizeOf : List ℕ → ℕ → ℕ
 sizeOf t n = 40 + 8 * length (listing t n)

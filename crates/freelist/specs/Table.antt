@@ -45,12 +45,14 @@ isState Free = true
 isState (Pending x) = true
 isState Broken = false
 
+-- in use
 abbrev pub isInUse : State → Bool
 isInUse InUse = true
 isInUse Free = false
 isInUse (Pending x) = false
 isInUse Broken = false
 
+-- free
 abbrev pub isFree : State → Bool
 isFree InUse = false
 isFree Free = true
@@ -66,12 +68,14 @@ isListed Broken = false
 
 -- ---- a page given a state
 
+-- the free bit of a page in that state
 abbrev pub freeBit : State → Bool
 freeBit InUse = false
 freeBit Free = true
 freeBit (Pending x) = false
 freeBit Broken = true
 
+-- the pending bit of a page in that state
 abbrev pub pendingBit : State → Bool
 pendingBit InUse = false
 pendingBit Free = false

@@ -1,6 +1,7 @@
 -- `freelist::row::release_page` meets its contract: a page that stays is put in its own state, which changes nothing.
 -- Assumes nothing.
 use mathlib.Core.Path.{sym, ap, _∙_}
+use native.Mathlib.Omega.{arith}
 use denote.Ref.{now}
 use Rattle.freelist.specs.Table.{put}
 use Rattle.freelist.specs.Freelist.{ripe}
@@ -25,7 +26,7 @@ returns-3 : tie.Need-returns-3
 returns-3 c =
     let a = c .before .before .before .before .before .before .before .before .before .before .before .args in
     let e = sym (c .before .before .before .before .before .before .before .before .state-of .ensures) ∙ c .before .before .before .before .before .before .x .given .1 in
-    c .before .before .put-state .ensures ∙ ap (put (now (a .t)) (a .p)) (sym (ripe-freed (a .tx) _ _ e (c .before .before .before .before .if1 .taken)))
+    c .before .before .put-state .ensures ∙ ap (put (now (a .t)) (a .p)) (sym (ripe-freed (a .tx) _ (c .before .before .before .before .before .before .x .given .0 .0) e (omega arith)))
 
 returns-4 : tie.Need-returns-4
 returns-4 c =

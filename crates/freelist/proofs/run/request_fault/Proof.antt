@@ -2,6 +2,7 @@
 -- Assumes nothing.
 use mathlib.Core.Path.{sym, _∙_}
 use mathlib.Core.Bool.{true, false}
+use native.Mathlib.Omega.{arith}
 use borrow.Author.Needs.{needs}
 use borrow.Author.Tests.{not-true, not-false, le-leb, lt-leb}
 use denote.Ref.{now}
@@ -24,7 +25,7 @@ returns-3 : tie.Need-returns-3
 returns-3 c =
     let a = c .before .before .before .before .before .before .args in
     let s = sym (c .before .before .before .before .is-allowed .ensures) ∙ not-false _ (c .before .before .before .if1 .left) in
-    request-by (now (a .t)) (a .n) (a .page-size) (a .bytes) s _ (c .before .before .fault .ensures) (c .before .if2 .left) false (lt-leb 40 (a .bytes) (c .if3 .taken))
+    request-by (now (a .t)) (a .n) (a .page-size) (a .bytes) s _ (c .before .before .fault .ensures) (c .before .if2 .left) false (lt-leb 40 (a .bytes) (omega arith))
 
 returns-4 : tie.Need-returns-4
 returns-4 c =
