@@ -59,13 +59,14 @@ module _ (t : List ℕ) (done : newNumber t ≡ 0) where
   unfolding newNumber hasRoom
   long = leb-true 33792 (length t) (held _ 0 done)
 
-  -- a word of the bits is 0, and any other is as it was
+  -- a word of the bits is 0
   new-word : (i : ℕ) → i < 1024 → _≡_ {A = ℕ} (getD (newTable t) i 0) 0
   unfolding newTable
   new-word i l =
       let e = length-replicate {A = ℕ} 1024 0 in
       rw (put-start t (replicate 1024 0), List·getD-append (replicate 1024 0) (drop (length (replicate {A = ℕ} 1024 0)) t) 0 i (omega arith)) (getD-replicate 1024 i 0 0 l)
 
+  -- and any other word is as it was
   pub new-rest : (i : ℕ) → 1024 ≤ i → getD (newTable t) i 0 ≡ getD t i 0
   unfolding newTable
   new-rest i l =
@@ -86,6 +87,7 @@ module _ (t : List ℕ) (done : newNumber t ≡ 0) where
   unfolding stateOf
   new-all q l = rw (bit-off q (omega arith), bit-off (32768 + q) (omega arith))
 
+  -- so that it passes with every page count that is allowed
   pub new-passes : (n : ℕ) → allowedCount n ≡ true → faultOf (newTable t) n ≡ 0
   unfolding newTable allowedCount
   new-passes n ok =
