@@ -1,14 +1,15 @@
--- Three ways in which two numbers stand, and the binary digits of words: of an or, an xor, and a single one.
+-- Three ways in which two numbers stand, and the binary digits of words: of an and, an or, an xor, a single one, and the lowest.
 -- Assumes nothing.
 use mathlib.Core.Path.{_≡_, refl, sym, ap, ap₂, _∙_}
 use mathlib.Core.Logic.{_⊎_, inl, inr, ⊎-elim}
-use Prim.Native.Nat.{ℕ, zero, suc, _+_, _-_, _*_, _/_, _%_, _^_, _≤_, _<_, max}
-use native.Mathlib.Nat.{add-zero, one-mul, mod-lt, div-eq-of-lt}
+use Prim.Native.Nat.{ℕ, zero, suc, _+_, _-_, _*_, _/_, _%_, _^_, _≤_, _<_, max, min}
+use native.Mathlib.Nat.{add-zero, one-mul, mod-lt, mod-one, zero-div, div-eq-of-lt, mul-mod-left}
+use native.Mathlib.Numerals.{one-add}
 use native.Mathlib.Omega.{arith}
 use lib.Dec.{lit<}
 use lib.Arith.{digits-mod}
-use lib.Pow.{pow-pos, pow-lt, pow-add, shl-shr, shl-exact, split}
-use lib.Bits.{bitAnd, bitOr, bitXor, differ, or-shr, or-step, xor-shr, xor-step, shifted-even, and-block, and-mask, and-zero-r}
+use lib.Pow.{pow-pos, pow-lt, pow-add, shl-shr, shl-exact, split, field, mod-mod-pow, mod-pow-add}
+use lib.Bits.{bitAnd, bitOr, bitXor, differ, and-shr, and-step, or-shr, or-step, xor-shr, xor-step, shifted-even, and-block, and-mask, and-zero-r}
 
 pub tri : (a b : ℕ) → (a < b) ⊎ ((a ≡ b) ⊎ (b < a))
 tri zero zero = inr (inl refl)
@@ -79,3 +80,32 @@ and-pow w k =
     let e : 2 ^ k ≡ 1 * 2 ^ k + 0 = omega arith in
     ap₂ bitAnd (sym (split w k)) e ∙ and-block k (w / 2 ^ k) 1 (w % 2 ^ k) 0 (mod-lt w (pow-pos k)) (pow-pos k)
     ∙ ap₂ (λ (x y : ℕ). x * 2 ^ k + y) (and-mask (w / 2 ^ k) 1) (and-zero-r (w % 2 ^ k)) ∙ add-zero ((w / 2 ^ k % 2) * 2 ^ k)
+
+pub digit-and : (a b k : ℕ) → bitAnd a b / 2 ^ k % 2 ≡ min (a / 2 ^ k % 2) (b / 2 ^ k % 2)
+digit-and a b k =
+    ap (λ (x : ℕ). x % 2) (and-shr a b k ∙ and-step (a / 2 ^ k) (b / 2 ^ k))
+    ∙ digits-mod (bitAnd (a / 2 ^ k / 2) (b / 2 ^ k / 2)) (omega arith)
+
+-- ---- the k lowest digits
+
+-- they are all 0 where the number is a multiple of 2 ^ k, and only there
+pub low-digits-zero : (x k : ℕ) → x % 2 ^ k ≡ 0 → (j : ℕ) → j < k → x / 2 ^ j % 2 ≡ 0
+low-digits-zero x k e j l =
+    let y = x / 2 ^ j in
+    let d = k - j - 1 in
+    let f : k ≡ d + 1 + j = omega arith in
+    let h : y % 2 ^ (d + 1) ≡ 0 =
+    sym (field x (d + 1) j) ∙ ap (λ (n : ℕ). x % 2 ^ n / 2 ^ j) (sym f) ∙ ap (λ (n : ℕ). n / 2 ^ j) e ∙ zero-div (2 ^ j) in
+    sym (mod-mod-pow y d 1) ∙ ap (λ (n : ℕ). n % 2) h
+
+pub low-digits-of-zero : (x k : ℕ) → ((j : ℕ) → j < k → x / 2 ^ j % 2 ≡ 0) → x % 2 ^ k ≡ 0
+low-digits-of-zero x zero h = mod-one x
+low-digits-of-zero x (suc k) h =
+    let d = h k (omega arith) in
+    ap (λ (n : ℕ). x % 2 ^ n) (sym (one-add k)) ∙ mod-pow-add x 1 k
+    ∙ omega (arith, ap (λ (n : ℕ). n * 2 ^ k) d, low-digits-of-zero x k (λ j l. h j (omega arith)))
+
+-- what a shift to the left keeps in a word of k + d digits
+pub shl-low : (x k d : ℕ) → (x * 2 ^ d) % 2 ^ (k + d) ≡ x % 2 ^ k * 2 ^ d
+shl-low x k d =
+    mod-pow-add (x * 2 ^ d) k d ∙ ap₂ (λ (y z : ℕ). y % 2 ^ k * 2 ^ d + z) (shl-shr x d) (mul-mod-left x (2 ^ d)) ∙ add-zero (x % 2 ^ k * 2 ^ d)

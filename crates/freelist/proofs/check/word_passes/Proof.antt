@@ -1,0 +1,25 @@
+-- `freelist::check::word_passes` meets its contract: a digit that both words share is a page with both bits.
+-- Assumes nothing.
+use denote.Ref.{now}
+use native.Mathlib.Omega.{arith}
+use Rattle.freelist.proofs.WordLaws.{word-test}
+use borrow.Author.Needs.{needs}
+use Rattle.freelist.proofs.check.word_passes.Statement.{statement}
+use Rattle.freelist.proofs.check.word_passes.Tie as tie
+
+returns : tie.Need-returns
+returns c = let a = c .before .before .args in word-test (now (a .t)) (a .i) (a .k) (omega arith) (omega arith)
+
+pub word-passes-spec : {M : Type 1} → statement M
+word-passes-spec =
+    tie.close
+    (tie.spec
+    (λ c. search needs)
+    (λ c. search needs)
+    (λ c. search needs)
+    (λ c. search needs)
+    (λ c. search needs)
+    (λ c. search needs)
+    (λ c. search needs)
+    (λ c. search needs)
+    returns)
