@@ -1,0 +1,194 @@
+-- Theorem: for any image, page size, page count, root and freelist page that the judge passes, and every key of any length:
+-- lookup doesn't refuse (`never-refused`), reaches a leaf by level 16 (`reaches-a-leaf`), says found exactly when some leaf reached from that root
+-- holds the key, with that entry's kind and value (`found-iff`, `value-shown`), and absent when none does (`absent-iff`);
+-- no second leaf entry has that key (`one-entry`); and with any bytes changed outside the blocks reached, every lookup answers the same (`outside-free`).
+-- Assumes nothing.
+use mathlib.Core.Path.{_≡_, refl, sym, ap, _∙_}
+use mathlib.Core.Bool.{Bool, true, false, cond}
+use mathlib.Core.List.{List, [], _∷_}
+use mathlib.Core.Logic.{_↔_}
+use mathlib.Core.Option.{none}
+use Prim.Native.Nat.{ℕ, zero, suc, _+_, _-_, _*_, _≤_}
+use native.Mathlib.Nat.{zero-add, sub-zero}
+use native.Mathlib.Omega.{arith}
+use lib.ListN.{length, take, drop}
+use lib.Seq.{drop-drop, take-take, take-nil}
+use Rattle.page.specs.Layout.{countOf, overflowOf, isLeaf, valueAt, valueSize, valueOf}
+use Rattle.page.specs.PageRules.{headerBad, blockOf}
+use Rattle.walk.specs.Tree.{Key, Item, View, bad, branch, leaf, memb, Answer, refused, found, absent, lookup, Below, LeafEntry}
+use Rattle.walk.proofs.Depth.{Landed}
+use Rattle.walk.proofs.SoundLaws.{below-way}
+use Rattle.walk.proofs.Theorems as tree
+use Rattle.tree.specs.declared.lookup.Fault.{Fault}
+use Rattle.tree.specs.declared.lookup.Value.{Value}
+use Rattle.tree.specs.declared.lookup.Looked.the-variants.{Found, Absent, Refused}
+use Rattle.tree.specs.View.{geometryBad, valueItem, viewOf}
+use Rattle.tree.specs.Lookup.{faultAt, lookedOf, lookupOf, valueIn}
+use Rattle.tree.specs.Judge.{Passes}
+use Rattle.tree.specs.Sound.{ReachedFrom}
+use Rattle.tree.specs.Outside.{SameWithin}
+use Rattle.tree.specs.Holds.{Holds, valueHeld}
+use Rattle.tree.proofs.ViewLaws.{checked, LeafBlock, view-branch, view-leaf, row-at, at-row}
+use Rattle.tree.proofs.ViewFrame.{block-is, header-ends, block-length, same-view}
+use Rattle.tree.proofs.PassesSound.{Passed, judge-passed, sizes-geometry, passes-iff-sound}
+
+-- a part of a part
+drop-take : (i n : ℕ) (l : List ℕ) → drop i (take n l) ≡ take (n - i) (drop i l)
+drop-take zero n l = ap (λ (k : ℕ). take k l) (sym (sub-zero n))
+drop-take (suc i) zero l = let e : 0 - suc i ≡ 0 = omega arith in rw e
+drop-take (suc i) (suc n) [] = sym (take-nil (suc n - suc i))
+drop-take (suc i) (suc n) (x ∷ l) = let e : suc n - suc i ≡ n - i = omega arith in rw e (drop-take i n l)
+
+part-part : (n k at m : ℕ) (l : List ℕ) → at + m ≤ n → take m (drop (k + at) l) ≡ take m (drop at (take n (drop k l)))
+part-part n k at m l h =
+    let a : take m (drop at (take n (drop k l))) ≡ take m (take (n - at) (drop at (drop k l))) = ap (take m) (drop-take at n (drop k l)) in
+    sym (a ∙ take-take m (n - at) (drop at (drop k l)) (omega arith) ∙ ap (take m) (drop-drop at k l))
+
+module _ (image : List ℕ) (P N root f : ℕ) (passes : Passes image P N root f) where
+  abbrev view : ℕ → Bool → View Value
+  view = viewOf image P N
+
+  p : Passed image P N root f (passes .entries) (passes .blocks)
+  p = judge-passed image P N root f (passes .entries) (passes .blocks) (passes .passed)
+
+  looks : (key : Key) → lookupOf image P N root key ≡ lookedOf (lookup N view 16 true root key)
+  unfolding lookupOf
+  looks key = rw (sizes-geometry image P N (p .sizes))
+
+  -- ---- pages reached are sound
+  not-bad : (q l : ℕ) (t : Bool) → Below view root true l q t → (r e : ℕ) → view q t ≡ bad r e → ⊥
+  not-bad q l t w =
+      let x = below-way view [] none w in
+      passes-iff-sound image P N root f .0 passes .tree .each (x .0) q t (x .1) (x .2) (x .3) .seen
+
+  header-sound : (q : ℕ) → ReachedFrom image P N root q → headerBad N q (drop (q * P) image) ≡ false
+  header-sound q x = go (view q (x .top)) refl
+    where
+      go : (v : View Value) → view q (x .top) ≡ v → headerBad N q (drop (q * P) image) ≡ false
+      go (bad r e) h = absurd (not-bad q (x .level) (x .top) (x .way) r e h)
+      go (branch cs) h = view-branch image P N q (x .top) cs h .header
+      go (leaf es) h = view-leaf image P N q (x .top) es h .header
+
+  -- ---- leaf entries, by their bytes
+  entry-holds : (q i : ℕ) (e : Item Value) → LeafEntry view root true q i e
+      → Holds image P N root (e .key) q i × (e ≡ valueItem (q * P) (blockOf image P q) i)
+  entry-holds q i e x =
+      let b = view-leaf image P N q (x .top) (x .entries) (x .isLeaf) in
+      let a = at-row (valueItem (q * P) (blockOf image P q)) (countOf (blockOf image P q)) 0 i e (rw (b .items) at (x .entryAt)) in
+      let s : valueItem (q * P) (blockOf image P q) i ≡ e = rw (zero-add i) at (a .1) in (
+        record {
+          reached = record { level = x .level; top = x .top; way = x .way };
+          isALeaf = b .kind;
+          index = a .0;
+          hasKey = ap (λ (y : Item Value). y .key) s;
+        },
+        sym s,
+      )
+
+  -- a page that holds an entry is viewed as a leaf
+  leaf-view : (key : Key) (q i : ℕ) (h : Holds image P N root key q i)
+      → (es : List (Item Value)) × (view q (h .reached .top) ≡ leaf es) × LeafBlock image P N q (h .reached .top) es
+  leaf-view key q i h = go (view q (h .reached .top)) refl
+    where
+      go : (v : View Value) → view q (h .reached .top) ≡ v
+          → (es : List (Item Value)) × (view q (h .reached .top) ≡ leaf es) × LeafBlock image P N q (h .reached .top) es
+      go (bad r e) g = absurd (not-bad q (h .reached .level) (h .reached .top) (h .reached .way) r e g)
+      go (branch cs) g =
+          absurd (let a = view-branch image P N q (h .reached .top) cs g .kind in let b = h .isALeaf in let z : _≡_ {A = ℕ} 0 1 = cc in omega arith)
+      go (leaf es) g = (es, g, view-leaf image P N q (h .reached .top) es g)
+
+  holds-entry : (key : Key) (q i : ℕ) → Holds image P N root key q i → LeafEntry view root true q i (valueItem (q * P) (blockOf image P q) i)
+  holds-entry key q i h =
+      let v = leaf-view key q i h in
+      let a = row-at (valueItem (q * P) (blockOf image P q)) (countOf (blockOf image P q)) 0 i (h .index) in
+      record {
+        level = h .reached .level;
+        top = h .reached .top;
+        entries = v .0;
+        way = h .reached .way;
+        isLeaf = v .1;
+        entryAt = rw (v .2 .items) (rw (zero-add i) at a);
+      }
+
+  -- ---- lookup doesn't refuse
+  pub never-refused : (key : Key) (x : Fault) → lookupOf image P N root key ≡ Refused x → ⊥
+  never-refused key x e = go (lookup N view 16 true root key) refl (sym (looks key) ∙ e)
+    where
+      go : (a : Answer Value) → lookup N view 16 true root key ≡ a → lookedOf a ≡ Refused x → ⊥
+      go (refused r q i) h g = tree.never-refused N view (checked image P N) root (passes .entries) (p .visited) (p .walked) key r q i h
+      go (found y q i) h g = let z : _≡_ {A = ℕ} 0 1 = cc in omega arith
+      go absent h g = let z : _≡_ {A = ℕ} 0 1 = cc in omega arith
+
+  -- ---- it reaches a leaf by level 16, and answers by that leaf's entries
+  pub reaches-a-leaf : (key : Key) → Landed N view key 16 true root
+  reaches-a-leaf = tree.lands N view (checked image P N) root (passes .entries) (p .visited) (p .walked)
+
+  -- ---- it says found exactly when some leaf reached from that root holds the key, and shows that entry
+  pub found-iff : (key : Key) (v : Value)
+      → (lookupOf image P N root key ≡ Found v) ↔ ((page : ℕ) × (i : ℕ) × Holds image P N root key page i × (v ≡ valueHeld image P page i))
+  found-iff key v = (λ e. there (lookup N view 16 true root key) refl (sym (looks key) ∙ e), back)
+    where
+      there : (a : Answer Value) → lookup N view 16 true root key ≡ a → lookedOf a ≡ Found v
+          → (page : ℕ) × (i : ℕ) × Holds image P N root key page i × (v ≡ valueHeld image P page i)
+      there (refused r q i) h g = absurd (let z : _≡_ {A = ℕ} 0 1 = cc in omega arith)
+      there (found y q i) h g =
+          let x = tree.found-iff N view (checked image P N) root (passes .entries) (p .visited) (p .walked) key y q i .0 h in
+          let w = entry-holds q i y (x .0) in
+          let u : y .value ≡ v = cc in
+          (q, i, rw (x .1) at (w .0), sym u ∙ ap (λ (e : Item Value). e .value) (w .1))
+      there absent h g = absurd (let z : _≡_ {A = ℕ} 0 1 = cc in omega arith)
+
+      back : ((page : ℕ) × (i : ℕ) × Holds image P N root key page i × (v ≡ valueHeld image P page i)) → lookupOf image P N root key ≡ Found v
+      back (q, i, h, e) =
+          let x = tree.found-iff N view (checked image P N) root (passes .entries) (p .visited) (p .walked) key (valueItem (q * P) (blockOf image P q) i) q i .1
+          (holds-entry key q i h, h .hasKey) in
+          looks key ∙ ap lookedOf x ∙ ap Found (sym e)
+
+  pub absent-iff : (key : Key) → (lookupOf image P N root key ≡ Absent) ↔ ((page i : ℕ) → Holds image P N root key page i → ⊥)
+  absent-iff key = (λ e. there (lookup N view 16 true root key) refl (sym (looks key) ∙ e), back)
+    where
+      there : (a : Answer Value) → lookup N view 16 true root key ≡ a → lookedOf a ≡ Absent → (page i : ℕ) → Holds image P N root key page i → ⊥
+      there (refused r q i) h g page j x = let z : _≡_ {A = ℕ} 0 1 = cc in omega arith
+      there (found y q i) h g page j x = let z : _≡_ {A = ℕ} 0 1 = cc in omega arith
+      there absent h g page j x =
+          tree.absent-iff N view (checked image P N) root (passes .entries) (p .visited) (p .walked) key .0 h page j
+          (valueItem (page * P) (blockOf image P page) j) (holds-entry key page j x) (x .hasKey)
+
+      back : ((page i : ℕ) → Holds image P N root key page i → ⊥) → lookupOf image P N root key ≡ Absent
+      back n =
+          looks key
+          ∙ ap lookedOf
+          (tree.absent-iff N view (checked image P N) root (passes .entries) (p .visited) (p .walked) key .1
+          (λ q i e x k. n q i (rw k at (entry-holds q i e x .0))))
+
+  -- ---- the value shown is the entry's
+  pub value-shown : (key : Key) (page i : ℕ) → Holds image P N root key page i
+      → valueIn image (Found (valueHeld image P page i)) ≡ valueOf true (blockOf image P page) i
+  unfolding valueOf
+  value-shown key q i h =
+      let b : List ℕ = blockOf image P q in
+      let n : ℕ = (overflowOf (drop (q * P) image) + 1) * P in
+      let l = block-length image P N q (header-ends N q _ (header-sound q (h .reached))) (p .sizes .holds) in
+      let w = leaf-view key q i h .2 .sound .within i (h .index) in
+      part-part n (q * P) (valueAt true b i) (valueSize true b i) image (omega arith)
+      ∙ ap (λ (s : List ℕ). take (valueSize true b i) (drop (valueAt true b i) s)) (sym (block-is image P q))
+
+  -- ---- no second leaf entry has that key
+  pub one-entry : (key : Key) (page i page′ i′ : ℕ) → Holds image P N root key page i → Holds image P N root key page′ i′ → (page ≡ page′) × (i ≡ i′)
+  one-entry key q i q′ i′ h h′ =
+      let x = tree.one-place N view (checked image P N) root (passes .entries) (p .visited) (p .walked) q i _ q′ i′ _
+      (holds-entry key q i h) (holds-entry key q′ i′ h′) (h .hasKey ∙ sym (h′ .hasKey)) in
+      (x .0, x .1)
+
+  -- ---- bytes outside the blocks reached don't matter
+  pub outside-free : (image′ : List ℕ) → SameWithin image image′ P N root → (key : Key) → lookupOf image′ P N root key ≡ lookupOf image P N root key
+  unfolding lookupOf geometryBad
+  outside-free image′ same key =
+      rw (same .sameLength)
+      (ap (λ (a : Answer Value). cond (geometryBad image P N) (Refused (faultAt 1 0 0)) (lookedOf a))
+      (tree.lookup-framed N view (checked image P N) root (passes .entries) (p .visited) (p .walked) (viewOf image′ P N) agrees key))
+    where
+      agrees : (q : ℕ) (s : Bool) → memb q (p .visited) ≡ true → viewOf image′ P N q s ≡ view q s
+      agrees q s m =
+          let r = tree.pages-exact N view (checked image P N) root (passes .entries) (p .visited) (p .walked) q .0 m in
+          same-view image P N q (header-ends N q _ (header-sound q r)) (p .sizes .holds) image′ (p .sizes .leastSize) (same .sameLength) (λ k. same .sameBytes q k r) s

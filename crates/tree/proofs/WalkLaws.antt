@@ -1,0 +1,205 @@
+-- The judge's walk, step by step: the words that mark the pages visited, one page's verdict, and the children in a row.
+-- Assumes nothing.
+use mathlib.Core.Path.{_≡_, refl, sym, ap, _∙_}
+use mathlib.Core.Bool.{Bool, true, false, cond, not, _||_}
+use mathlib.Core.List.{List, [], _∷_}
+use mathlib.Core.Logic.{⊎-elim}
+use mathlib.Core.Option.{Option, none, some}
+use Prim.Native.Nat.{ℕ, zero, suc, _+_, _-_, _≤_, _<_}
+use native.Mathlib.Numerals.{add-one}
+use native.Mathlib.Omega.{arith}
+use borrow.Author.Tests.{eq-eqb, ne-eqb, eqb-false, lt-ltb, le-ltb}
+use lib.Dec.{ltb}
+use lib.ListN.{length}
+use Rattle.field.specs.Marks.{mark, isMarked, withMark, noMarks}
+use Rattle.field.proofs.BitLaws.{same-or}
+use Rattle.field.proofs.MarkLaws.{mark-lt, with-same, with-other, count-with, mark-none, count-none}
+use Rattle.page.specs.declared.rules.Verdict.{Verdict}
+use Rattle.page.specs.declared.rules.Verdict.the-variants as verdict
+use Rattle.page.specs.PageRules.{firstBad}
+use Rattle.walk.specs.Tree.{Key, Item, View, bad, branch, leaf, keys, inRange, memb, inside, firstOut, next, Walker, pass, fault, walkAll, walkPage, walk, Verdict as Walk}
+use Rattle.tree.specs.declared.lookup.Fault.{Fault}
+use Rattle.tree.specs.declared.lookup.Value.{Value}
+use Rattle.tree.specs.declared.range.Page.{Page}
+use Rattle.tree.specs.declared.range.Page.the-variants.{Branch, Leaf, Breach}
+use Rattle.tree.specs.declared.judge.Walked.{Walked}
+use Rattle.tree.specs.declared.judge.Outcome.the-variants.{Passed, Broken}
+use Rattle.tree.specs.Lookup.{faultAt}
+use Rattle.tree.specs.View.{row}
+use Rattle.tree.specs.Walk.{upperOf, unlessOut, pageOf, Marks, Says}
+
+-- ---- the marks
+pub marks-none : Marks noMarks []
+marks-none = record { each = λ k l. rw (mark-none k); counted = count-none }
+
+pub marks-with : (m vs : List ℕ) (p : ℕ) → Marks m vs → length m ≡ 512 → p < 32768 → isMarked m p ≡ false → Marks (withMark m p) (p ∷ vs)
+marks-with m vs p h long small fresh =
+    let z : mark m p ≡ 0 = unmarked (mark m p) (mark-lt m p) (eqb-false (mark m p) 1 fresh) in
+    let c = h .counted in
+    record {
+      each = λ k l. ⊎-elim (here k) (λ n. rw (with-other m p long small k n, ne-eqb k p n) (h .each k l)) (same-or k p);
+      counted = omega (arith, count-with m p long small z);
+    }
+  where
+    unmarked : (x : ℕ) → x < 2 → (x ≡ 1 → ⊥) → x ≡ 0
+    unmarked zero l n = refl
+    unmarked (suc zero) l n = absurd (n refl)
+    unmarked (suc (suc x)) l n = absurd (omega arith)
+
+    here : (k : ℕ) → k ≡ p → isMarked (withMark m p) k ≡ memb k (p ∷ vs)
+    here k e = rw (e, with-same m p long small, eq-eqb p p refl)
+
+-- ---- one page, with `left` levels to spend
+module _ (N : ℕ) (view : ℕ → Bool → View Value) (q : ℕ) (t : Bool) (low : Key) (high : Option Key) (vs : List ℕ) where
+  pub walk-deep : (left : ℕ) → left ≡ 0 → walk N view left t q low high vs ≡ fault 9 q 0
+  unfolding walk
+  walk-deep left e = rw e
+
+  pub walk-out : (left : ℕ) → 0 < left → inside N q ≡ false → walk N view left t q low high vs ≡ fault 2 q 0
+  unfolding walk
+  walk-out zero l e = absurd (omega arith)
+  walk-out (suc d) l e = rw e
+
+  pub walk-twice : (left : ℕ) → 0 < left → inside N q ≡ true → memb q vs ≡ true → walk N view left t q low high vs ≡ fault 8 q 0
+  unfolding walk
+  walk-twice zero l e m = absurd (omega arith)
+  walk-twice (suc d) l e m = rw (e, m)
+
+  walks : (left : ℕ) → 0 < left → inside N q ≡ true → memb q vs ≡ false
+      → walk N view left t q low high vs ≡ walkPage (walk N view (left - 1) false) (view q t) q low high (q ∷ vs)
+  unfolding walk
+  walks zero l e m = absurd (omega arith)
+  walks (suc d) l e m = let k : suc d - 1 ≡ d = omega arith in rw (e, m, k)
+
+  module _ (left : ℕ) (spare : 0 < left) (within : inside N q ≡ true) (fresh : memb q vs ≡ false) where
+    pub walk-breach : (r i : ℕ) → pageOf (view q t) low high ≡ Breach r i → walk N view left t q low high vs ≡ fault r q i
+    unfolding walkPage pageOf
+    walk-breach r i e = walks left spare within fresh ∙ go (view q t) e
+      where
+        out : (o : Option ℕ) (p : Page) (v : Walk) → (p ≡ Breach r i → ⊥) → unlessOut o p ≡ Breach r i → Rattle.walk.specs.Tree.unlessOut o q v ≡ fault r q i
+        out none p v n h = absurd (n h)
+        out (some j) p v n h = let a : 7 ≡ r = cc in let b : j ≡ i = cc in rw (← a, b)
+
+        go : (v : View Value) → pageOf v low high ≡ Breach r i → walkPage (walk N view (left - 1) false) v q low high (q ∷ vs) ≡ fault r q i
+        go (bad s x) h = let a : s ≡ r = cc in let b : x ≡ i = cc in rw (a, b)
+        go (branch cs) h = out (firstOut low high (keys cs) 0) (Branch (length cs)) _ (λ g. let z : _≡_ {A = ℕ} 0 1 = cc in omega arith) h
+        go (leaf es) h = out (firstOut low high (keys es) 0) (Leaf (length es)) _ (λ g. let z : _≡_ {A = ℕ} 0 1 = cc in omega arith) h
+
+    pub walk-leaf : (n : ℕ) → pageOf (view q t) low high ≡ Leaf n → walk N view left t q low high vs ≡ pass n (q ∷ vs)
+    unfolding walkPage pageOf
+    walk-leaf n e = walks left spare within fresh ∙ go (view q t) e
+      where
+        none-out : (o : Option ℕ) (p : Page) → unlessOut o p ≡ Leaf n → (o ≡ none) × (p ≡ Leaf n)
+        none-out none p h = (refl, h)
+        none-out (some j) p h = absurd (let z : _≡_ {A = ℕ} 0 1 = cc in omega arith)
+
+        go : (v : View Value) → pageOf v low high ≡ Leaf n → walkPage (walk N view (left - 1) false) v q low high (q ∷ vs) ≡ pass n (q ∷ vs)
+        go (bad s x) h = absurd (let z : _≡_ {A = ℕ} 0 1 = cc in omega arith)
+        go (branch cs) h = absurd (let o = none-out (firstOut low high (keys cs) 0) (Branch (length cs)) h .1 in let z : _≡_ {A = ℕ} 0 1 = cc in omega arith)
+        go (leaf es) h =
+            let o = none-out (firstOut low high (keys es) 0) (Leaf (length es)) h in
+            let l : length es ≡ n = (let u = o .1 in cc) in
+            rw (o .0, l)
+
+    pub walk-branch : (n : ℕ) (cs : List (Item ℕ)) → view q t ≡ branch cs → pageOf (view q t) low high ≡ Branch n
+        → walk N view left t q low high vs ≡ walkAll (walk N view (left - 1) false) cs high 0 (q ∷ vs)
+    unfolding walkPage pageOf
+    walk-branch n cs f e =
+        let o = none-out (firstOut low high (keys cs) 0) (Branch (length cs)) (rw f at e) in
+        walks left spare within fresh ∙ rw (f, o)
+      where
+        none-out : (o : Option ℕ) (p : Page) → unlessOut o p ≡ Branch n → o ≡ none
+        none-out none p h = refl
+        none-out (some j) p h = absurd (let z : _≡_ {A = ℕ} 0 1 = cc in omega arith)
+
+-- a page that is a branch, by its verdict
+pub page-branch : (v : View Value) (low : Key) (high : Option Key) (n : ℕ) → pageOf v low high ≡ Branch n → (cs : List (Item ℕ)) × (v ≡ branch cs) × (length cs ≡ n)
+unfolding pageOf
+page-branch v low high n = go v
+  where
+    branched : (o : Option ℕ) (p : Page) → unlessOut o p ≡ Branch n → p ≡ Branch n
+    branched none p h = h
+    branched (some j) p h = absurd (let z : _≡_ {A = ℕ} 0 1 = cc in omega arith)
+
+    go : (v : View Value) → pageOf v low high ≡ Branch n → (cs : List (Item ℕ)) × (v ≡ branch cs) × (length cs ≡ n)
+    go (bad s x) h = absurd (let z : _≡_ {A = ℕ} 0 1 = cc in omega arith)
+    go (branch cs) h = let u = branched (firstOut low high (keys cs) 0) (Branch (length cs)) h in (cs, refl, cc)
+    go (leaf es) h = absurd (let u = branched (firstOut low high (keys es) 0) (Leaf (length es)) h in let z : _≡_ {A = ℕ} 0 1 = cc in omega arith)
+
+pub page-leaf : (v : View Value) (low : Key) (high : Option Key) (n : ℕ) → pageOf v low high ≡ Leaf n → (es : List (Item Value)) × (v ≡ leaf es) × (length es ≡ n)
+unfolding pageOf
+page-leaf v low high n = go v
+  where
+    leafed : (o : Option ℕ) (p : Page) → unlessOut o p ≡ Leaf n → p ≡ Leaf n
+    leafed none p h = h
+    leafed (some j) p h = absurd (let z : _≡_ {A = ℕ} 0 1 = cc in omega arith)
+
+    go : (v : View Value) → pageOf v low high ≡ Leaf n → (es : List (Item Value)) × (v ≡ leaf es) × (length es ≡ n)
+    go (bad s x) h = absurd (let z : _≡_ {A = ℕ} 0 1 = cc in omega arith)
+    go (branch cs) h = absurd (let u = leafed (firstOut low high (keys cs) 0) (Branch (length cs)) h in let z : _≡_ {A = ℕ} 0 1 = cc in omega arith)
+    go (leaf es) h = let u = leafed (firstOut low high (keys es) 0) (Leaf (length es)) h in (es, refl, cc)
+
+-- ---- an answer put together, and taken apart
+pub says-fault : (r : Walked) (w : Walk) (k p i : ℕ) → w ≡ fault k p i → r .outcome ≡ Broken (faultAt k p i) → Says r w
+says-fault r w k p i e o = rw e o
+
+pub says-pass : (r : Walked) (w : Walk) (n : ℕ) (vs : List ℕ) → w ≡ pass n vs → r .outcome ≡ Passed n → Marks (r .marks) vs → Says r w
+says-pass r w n vs e o m = rw e (o, m)
+
+pub never-both : {A : Type 0} (r : Walked) (f : Fault) (n : ℕ) → r .outcome ≡ Broken f → r .outcome ≡ Passed n → A
+never-both r f n b p = absurd (let z : _≡_ {A = ℕ} 0 1 = cc in omega arith)
+
+pub says-passed : (r : Walked) (w : Walk) (n : ℕ) → Says r w → r .outcome ≡ Passed n → (vs : List ℕ) × (w ≡ pass n vs) × Marks (r .marks) vs
+says-passed r (pass m vs) n s e = let u = s .0 in let a : m ≡ n = cc in (vs, rw a, s .1)
+says-passed r (fault k p i) n s e = absurd (let z : _≡_ {A = ℕ} 0 1 = cc in omega arith)
+
+pub says-broken : (r : Walked) (w : Walk) (f : Fault) → Says r w → r .outcome ≡ Broken f → w ≡ fault (f .number) (f .page) (f .element)
+says-broken r (pass m vs) f s e = absurd (let u = s .0 in let z : _≡_ {A = ℕ} 0 1 = cc in omega arith)
+says-broken r (fault k p i) f s e =
+    let u : faultAt k p i ≡ f = cc in
+    rw (← u)
+
+-- ---- the children in a row
+module _ (f : ℕ → Item ℕ) (c i : ℕ) where
+  pub next-upper : (bounded : Bool) (high : Key) → i < c
+      → upperOf (ltb (i + 1) c || bounded) (cond (ltb (i + 1) c) (f (i + 1) .key) high) ≡ next (row f (c - (i + 1)) (i + 1)) (upperOf bounded high)
+  unfolding row
+  next-upper bounded high l = go (c - (i + 1)) refl
+    where
+      go : (k : ℕ) → c - (i + 1) ≡ k
+          → upperOf (ltb (i + 1) c || bounded) (cond (ltb (i + 1) c) (f (i + 1) .key) high) ≡ next (row f k (i + 1)) (upperOf bounded high)
+      go zero e = let h : c ≤ i + 1 = omega arith in rw (le-ltb (i + 1) c h)
+      go (suc k) e = let h : i + 1 < c = omega arith in rw (lt-ltb (i + 1) c h)
+
+  module _ (go : Walker) (high : Option Key) (n : ℕ) (us : List ℕ) where
+    pub turn-passed : (m : ℕ) (ws : List ℕ) → i < c → go (f i .value) (f i .key) (next (row f (c - (i + 1)) (i + 1)) high) us ≡ pass m ws
+        → walkAll go (row f (c - i) i) high n us ≡ walkAll go (row f (c - (i + 1)) (i + 1)) high (n + m) ws
+    unfolding walkAll row
+    turn-passed m ws l e = let k : c - i ≡ suc (c - (i + 1)) = omega arith in rw (k, e)
+
+    pub turn-broken : (r p x : ℕ) → i < c → go (f i .value) (f i .key) (next (row f (c - (i + 1)) (i + 1)) high) us ≡ fault r p x
+        → walkAll go (row f (c - i) i) high n us ≡ fault r p x
+    unfolding walkAll row
+    turn-broken r p x l e = let k : c - i ≡ suc (c - (i + 1)) = omega arith in rw (k, e)
+
+    pub turn-done : c ≤ i → walkAll go (row f (c - i) i) high n us ≡ pass n us
+    unfolding walkAll row
+    turn-done l = let k : c - i ≡ 0 = omega arith in rw k
+
+-- ---- rule 8: the first key out of range, by index
+abbrev pub optionOf : Verdict → Option ℕ
+optionOf verdict.Sound = none
+optionOf (verdict.Breach number i) = some i
+
+pub out-row : {A : Type 0} (f : ℕ → Item A) (low : Key) (high : Option Key) (k i : ℕ)
+    → firstOut low high (keys (row f k i)) i ≡ optionOf (firstBad (λ j. not (inRange low high (f j .key))) 7 k i)
+unfolding firstOut firstBad row
+out-row f low high zero i = refl
+out-row f low high (suc k) i =
+    go (inRange low high (f i .key)) (ap (firstOut low high (keys (row f k (i + 1)))) (sym (add-one i)) ∙ out-row f low high k (i + 1))
+  where
+    go : (t : Bool) → firstOut low high (keys (row f k (i + 1))) (suc i) ≡ optionOf (firstBad (λ j. not (inRange low high (f j .key))) 7 k (i + 1))
+        → cond t (firstOut low high (keys (row f k (i + 1))) (suc i)) (some i)
+        ≡ optionOf (cond (not t) (verdict.Breach 7 i) (firstBad (λ j. not (inRange low high (f j .key))) 7 k (i + 1)))
+    go true h = h
+    go false h = refl

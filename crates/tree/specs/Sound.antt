@@ -1,0 +1,47 @@
+-- What 01 calls a sound image, with no walk: every page reached from the root keeps the page rules, none is reached twice, and the freelist
+-- page keeps its own. Assumes nothing.
+use mathlib.Core.Path.{_≡_}
+use mathlib.Core.Bool.{true}
+use mathlib.Core.List.{List, []}
+use mathlib.Core.Option.{none}
+use Prim.Native.Nat.{ℕ, _+_, _*_, _≤_, _<_, _%_}
+use lib.ListN.{length, drop}
+use Rattle.page.specs.Layout.{idOf, typeOf, countOf, overflowOf}
+use Rattle.page.specs.PageRules.{blockOf}
+use Rattle.walk.specs.Tree.{Reached}
+use Rattle.walk.specs.Sound.{Sound}
+use Rattle.tree.specs.View.{viewOf}
+use Rattle.tree.specs.Judge.{idAt}
+
+-- the sizes allowed, and an image that holds at least N times P bytes
+pub record SoundSizes (image : List ℕ) (P N : ℕ) : Type 0 where
+  pub leastSize : 1024 ≤ P
+  pub mostSize : P ≤ 65536
+  pub eights : P % 8 ≡ 0
+  pub leastCount : 2 ≤ N
+  pub mostCount : N ≤ 32768
+  pub holds : N * P ≤ length image
+
+-- page q is reached from the root
+abbrev pub ReachedFrom : List ℕ → ℕ → ℕ → ℕ → ℕ → Type 0
+ReachedFrom image P N root q = Reached (viewOf image P N) root true q
+
+-- the freelist page: in bounds, not reached by the tree, a whole block of type 4; its ids in bounds, strictly rising, none reached and none its own page
+pub record SoundFreelist (image : List ℕ) (P N root f : ℕ) : Type 0 where
+  pub from2 : 2 ≤ f
+  pub belowN : f < N
+  pub apart : ReachedFrom image P N root f → ⊥
+  pub id : idOf (drop (f * P) image) ≡ f
+  pub type : typeOf (drop (f * P) image) ≡ 4
+  pub whole : f + overflowOf (drop (f * P) image) < N
+  pub table : 32 + 8 * countOf (blockOf image P f) ≤ length (blockOf image P f)
+  pub idFrom2 : (i : ℕ) → i < countOf (blockOf image P f) → 2 ≤ idAt (blockOf image P f) i
+  pub idBelowN : (i : ℕ) → i < countOf (blockOf image P f) → idAt (blockOf image P f) i < N
+  pub rising : (i : ℕ) → i + 1 < countOf (blockOf image P f) → idAt (blockOf image P f) i < idAt (blockOf image P f) (i + 1)
+  pub unused : (i : ℕ) → i < countOf (blockOf image P f) → ReachedFrom image P N root (idAt (blockOf image P f) i) → ⊥
+  pub notOwn : (i : ℕ) → i < countOf (blockOf image P f) → idAt (blockOf image P f) i ≡ f → ⊥
+
+pub record SoundImage (image : List ℕ) (P N root f : ℕ) : Type 0 where
+  pub sizes : SoundSizes image P N
+  pub tree : Sound (viewOf image P N) N 16 root true [] none
+  pub freelist : SoundFreelist image P N root f
