@@ -10,19 +10,19 @@ use native.Mathlib.Omega.{arith}
 use lib.Dec.{eqb}
 use lib.ListN.{length, length-drop}
 use lib.Seq.{length-take-le}
-use borrow.Author.Tests.{le-leb, eq-eqb, eqb-true}
+use borrow.Author.Tests.{le-leb, eq-eqb}
 use Rattle.field.specs.declared.order.Order.the-variants.{Lower}
 use Rattle.field.specs.Order.{orderOf}
 use Rattle.field.proofs.FieldLaws.{Bytes, field-fits}
 use Rattle.field.specs.Sizes.{sizeAllowed}
 use Rattle.page.specs.declared.rules.Verdict.the-variants.{Sound}
 use Rattle.page.specs.Layout.{Entry, countOf, isLeaf, elementAt, tableEnd, valueSize, valueEnd, keyOf, valueOf, entryOf, entriesFrom}
-use Rattle.page.specs.PageRules.{kindBad, kindBadAt, SoundBlock, checkOf, lentCheckOf, lengthBad, lentHeaderBad}
-use Rattle.page.proofs.RuleLaws.{sound-check}
+use Rattle.page.specs.PageRules.{headerBad, kindBad, kindBadAt, SoundBlock, checkOf, lentCheckOf, lengthBad, lentHeaderBad}
+use Rattle.page.proofs.RuleLaws.{header-iff, kind-iff, sound-check}
 use Rattle.pack.specs.Pack.{nodeSize, pagesNeeded, typeNumber, pack}
 use Rattle.pack.specs.Entries.{Storable, Good, Each, RisingEntries}
 use Rattle.pack.proofs.PackLaws.{node-size, length-pack, covers, one-page}
-use Rattle.pack.proofs.Decode.{type-packed, count-packed, length-packed, packed-run}
+use Rattle.pack.proofs.Decode.{id-packed, overflow-packed, type-packed, count-packed, length-packed, packed-run}
 
 -- ---- entries
 pub each-map : {F G : Entry → Type 0} (es : List Entry) → ((e : Entry) → F e → G e) → Each F es → Each G es
@@ -32,12 +32,7 @@ each-map (e ∷ es) f h = (f e (h .0), each-map es f (h .1))
 
 -- a kind that is not bad is 0 or 1
 kind-small : (kind size : ℕ) → kindBad kind size ≡ false → kind < 256
-kind-small kind size h = go (eqb kind 0) refl (eqb kind 1) refl
-  where
-    go : (s : Bool) → eqb kind 0 ≡ s → (t : Bool) → eqb kind 1 ≡ t → kind < 256
-    go true p t q = let e = eqb-true kind 0 p in omega arith
-    go false p true q = let e = eqb-true kind 1 q in omega arith
-    go false p false q = absurd (let f : true ≡ false = rw (p, q) at h in let z : _≡_ {A = ℕ} 0 1 = cc in omega arith)
+kind-small kind size h = ⊎-elim (λ e. omega arith) (λ e. omega arith) (kind-iff kind size .0 h)
 
 pub good-storable : (leaf : Bool) (e : Entry) → Good leaf e → Storable leaf e
 good-storable false e h = h
@@ -114,7 +109,7 @@ module _ (leaf emptyOk : Bool) (id : ℕ) (es : List Entry) (P : ℕ) (p : 0 < P
   pub check-packed : checkOf leaf emptyOk (pack leaf id es P) ≡ Sound
   check-packed = sound-check leaf emptyOk (pack leaf id es P) packed-sound
 
--- ---- and it passes as a lent block, for each allowed page size; an empty leaf does too
+-- ---- and it passes rule 4, and as a lent block, for each allowed page size; an empty leaf does too
 type-leaf : (leaf : Bool) (t : ℕ) → t ≡ typeNumber leaf → eqb t 2 ≡ leaf
 type-leaf false t e = rw e
 type-leaf true t e = rw e
@@ -126,6 +121,13 @@ type-known true t e = rw e
 module _ (leaf : Bool) (id : ℕ) (es : List Entry) (P : ℕ) (p : 0 < P) (small : nodeSize leaf es < 2 ^ 64) where
   pub leaf-packed : isLeaf (pack leaf id es P) ≡ leaf
   leaf-packed = type-leaf leaf _ (type-packed leaf id es P)
+
+  -- rule 4, for a block that ends before page N
+  pub header-packed : (N : ℕ) → id < 2 ^ 64 → id + pagesNeeded (nodeSize leaf es) P ≤ N → headerBad N id (pack leaf id es P) ≡ false
+  header-packed N h k =
+      let o = overflow-packed leaf id es P p small in
+      let m = one-page (nodeSize leaf es) P p (omega (arith, node-size leaf es)) in
+      header-iff N id (pack leaf id es P) .1 (id-packed leaf id es P h, type-known leaf _ (type-packed leaf id es P), omega arith)
 
   length-good : sizeAllowed P ≡ true → lengthBad P (pack leaf id es P) ≡ false
   length-good allowed =

@@ -11,11 +11,12 @@ use Rattle.field.specs.Field.{field}
 use Rattle.field.specs.Run.{putAt}
 use Rattle.page.specs.Layout.{Entry, elementSize, elementAt, countOf, entriesOf}
 use Rattle.page.specs.PageRules.{SoundBlock}
+use Rattle.page.proofs.EntryLaws.{length-from}
 use Rattle.pack.specs.Pack.{nodeSize, pagesNeeded, blockSize, element, table, bodies, pack}
 use Rattle.pack.specs.declared.write.Plan.{Plan}
 use Rattle.pack.specs.Plan.{entry, range, maybe, fresh, planned, one, countIn, insertAt, replaceAt, removeAt, cutOf}
 use Rattle.pack.proofs.PackLaws.{count-below, node-size, length-bodies-append, table-then, bodies-then, covers, one-page}
-use Rattle.pack.proofs.RangeLaws.{length-from, range-part, range-first, range-last, range-end}
+use Rattle.pack.proofs.RangeLaws.{range-part, range-first, range-last, range-end}
 
 -- ---- the new entry, or none
 module _ (p : Plan) (key value : List ℕ) where

@@ -12,6 +12,7 @@ use Rattle.field.specs.Run.{putAt}
 use Rattle.field.proofs.RunLaws.{put-nil, put-put}
 use Rattle.page.specs.Layout.{Entry, countOf, elementSize, elementAt, valueSize, valueAt, valueEnd, valueOf, entryOf, entriesFrom, entriesOf}
 use Rattle.page.specs.PageRules.{SoundBlock}
+use Rattle.page.proofs.EntryLaws.{length-from}
 use Rattle.page.proofs.LayoutLaws.{element-room}
 use Rattle.pack.specs.Pack.{element, body, table, bodies}
 use Rattle.pack.specs.Plan.{range}
@@ -27,11 +28,6 @@ module _ (leaf : Bool) (b : List ℕ) where
   unfolding entriesFrom
   range-end i to h = let e : to - i ≡ 0 = omega arith in rw e
 
-  pub length-from : (k i : ℕ) → length (entriesFrom leaf b k i) ≡ k
-  unfolding entriesFrom
-  length-from zero i = refl
-  length-from (suc k) i = ap suc (length-from k (i + 1))
-
   from-split : (j k i : ℕ) → entriesFrom leaf b (j + k) i ≡ entriesFrom leaf b j i ++ entriesFrom leaf b k (i + j)
   unfolding entriesFrom
   from-split zero k i = rw (zero-add, add-zero)
@@ -45,8 +41,8 @@ module _ (leaf : Bool) (b : List ℕ) where
   range-part from to h k =
       let n : from + (to - from + (countOf b - to)) ≡ countOf b = omega arith in
       let s = rw (n, zero-add) at (from-split from (to - from + (countOf b - to)) 0) in
-      rw (s, drop-at (entriesFrom leaf b from 0) _ from (length-from from 0), from-split (to - from) (countOf b - to) from)
-      (sym (take-at (entriesFrom leaf b (to - from) from) _ (to - from) (length-from (to - from) from)))
+      rw (s, drop-at (entriesFrom leaf b from 0) _ from (length-from leaf b from 0), from-split (to - from) (countOf b - to) from)
+      (sym (take-at (entriesFrom leaf b (to - from) from) _ (to - from) (length-from leaf b (to - from) from)))
 
   pub range-first : (to : ℕ) → to ≤ countOf b → range leaf b 0 to ≡ take to (entriesOf leaf b)
   range-first to h = range-part 0 to (omega arith) h ∙ rw sub-zero
@@ -54,7 +50,7 @@ module _ (leaf : Bool) (b : List ℕ) where
   pub range-last : (from : ℕ) → from ≤ countOf b → range leaf b from (countOf b) ≡ drop from (entriesOf leaf b)
   unfolding entriesOf
   range-last from h =
-      let l = length-from (countOf b) 0 in
+      let l = length-from leaf b (countOf b) 0 in
       range-part from (countOf b) h (omega arith)
       ∙ take-all (countOf b - from) (drop from (entriesFrom leaf b (countOf b) 0)) (rw (length-drop, l) (omega arith))
 

@@ -4,6 +4,7 @@ pub mod ViewFrame
 pub mod PassesSound
 pub mod Counts
 pub mod Demand3
+pub mod Numbers
 pub mod ImageLaws
 pub mod StepLaws
 pub mod FindLaws

@@ -1,0 +1,2 @@
+-- What the contracts of `shard` cite.
+pub mod Answer

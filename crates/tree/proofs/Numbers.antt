@@ -1,0 +1,143 @@
+-- Theorem: a judge that answers 0 has passed the image (`zero-passes`), since every refusal has a number above 0; and on an image that passed,
+-- every lookup answers 0 (`lookup-zero`).
+-- Assumes nothing.
+use mathlib.Core.Path.{_≡_, refl, sym, ap, _∙_}
+use mathlib.Core.Bool.{Bool, true, false, not, cond, _&&_}
+use mathlib.Core.List.{List, [], _∷_}
+use mathlib.Core.Option.{Option, none, some}
+use Prim.Native.Nat.{ℕ, zero, suc, _+_, _-_, _*_, _<_}
+use native.Mathlib.Omega.{arith}
+use lib.Dec.{ltb}
+use lib.ListN.{length, drop}
+use Rattle.page.specs.declared.rules.Verdict.{Verdict}
+use Rattle.page.specs.declared.rules.Verdict.the-variants as verdict
+use Rattle.page.specs.Layout.{countOf, isLeaf}
+use Rattle.page.specs.PageRules.{andThen, unless, firstBad, tableBad, elementBad, keyBad, headerBad, blockOf, checkOf}
+use Rattle.page.proofs.FirstBreach.{breach-first}
+use Rattle.walk.specs.Tree.{Key, Item, View, bad, branch, leaf, keys, memb, inside, firstOut, unlessOut, next, Walker, pass, fault, andThen as thenWalk, walkAll, walkPage, walk, Verdict as Walk}
+use Rattle.tree.specs.declared.lookup.Value.{Value}
+use Rattle.tree.specs.declared.lookup.Looked.{Looked}
+use Rattle.tree.specs.declared.lookup.Looked.the-variants as looked
+use Rattle.tree.specs.declared.judge.Judged.{Judged}
+use Rattle.tree.specs.declared.judge.Judged.the-variants.{Sound, Refused}
+use Rattle.tree.specs.View.{geometryBad, elementsView, checkedView, blockView, viewOf}
+use Rattle.tree.specs.Lookup.{faultAt, lookupOf, numberOf}
+use Rattle.tree.specs.Judge.{idOutside, idNotAbove, idMarked, freeHeaderBad, idsOf, freelistOf, judgedOf, afterTree, judgeOf, Passes, numberOf as judgeNumber}
+use Rattle.tree.proofs.Demand3.{never-refused}
+
+-- ---- breaches are numbered from 1
+abbrev Numbered : Verdict → Type 0
+Numbered v = (r i : ℕ) → v ≡ verdict.Breach r i → 0 < r
+
+unless-numbered : (t : Bool) (k : ℕ) (v : Verdict) → 0 < k → Numbered v → Numbered (unless t k v)
+unless-numbered true k v l n r i e = let u : k ≡ r = cc in omega arith
+unless-numbered false k v l n r i e = n r i e
+
+then-numbered : (v w : Verdict) → Numbered v → Numbered w → Numbered (andThen v w)
+then-numbered verdict.Sound w n m r i e = m r i e
+then-numbered (verdict.Breach k j) w n m r i e = n r i e
+
+first-numbered : (test : ℕ → Bool) (number k j : ℕ) → 0 < number → Numbered (firstBad test number k j)
+first-numbered test number k j l r i e = let h = breach-first test number k j r i e .0 in omega arith
+
+check-numbered : (isLeaf emptyOk : Bool) (b : List ℕ) → Numbered (checkOf isLeaf emptyOk b)
+unfolding checkOf
+check-numbered isLeaf emptyOk b =
+    unless-numbered (tableBad isLeaf emptyOk b) 4 _ (omega arith)
+    (then-numbered (firstBad (elementBad isLeaf b) 5 (countOf b) 0) (firstBad (keyBad isLeaf b) 6 (countOf b - 1) 1)
+    (first-numbered (elementBad isLeaf b) 5 (countOf b) 0 (omega arith)) (first-numbered (keyBad isLeaf b) 6 (countOf b - 1) 1 (omega arith)))
+
+list-numbered : (image : List ℕ) (P N f : ℕ) (vs : List ℕ) → Numbered (freelistOf image P N f vs)
+unfolding freelistOf idsOf
+list-numbered image P N f vs =
+    let b : List ℕ = blockOf image P f in
+    unless-numbered (not (inside N f)) 2 _ (omega arith)
+    (unless-numbered (memb f vs) 8 _ (omega arith)
+    (unless-numbered (freeHeaderBad N f (drop (f * P) image)) 3 _ (omega arith)
+    (unless-numbered (ltb (length b) (32 + 8 * countOf b)) 4 _ (omega arith)
+    (then-numbered (firstBad (idOutside N b) 5 (countOf b) 0) _ (first-numbered (idOutside N b) 5 (countOf b) 0 (omega arith))
+    (then-numbered (firstBad (idNotAbove b) 6 (countOf b - 1) 1) (firstBad (idMarked (f ∷ vs) b) 8 (countOf b) 0)
+    (first-numbered (idNotAbove b) 6 (countOf b - 1) 1 (omega arith)) (first-numbered (idMarked (f ∷ vs) b) 8 (countOf b) 0 (omega arith)))))))
+
+-- ---- faults of the walk are numbered from 1
+abbrev NumberedView : (ℕ → Bool → View Value) → Type 0
+NumberedView view = (q : ℕ) (t : Bool) (r i : ℕ) → view q t ≡ bad r i → 0 < r
+
+view-numbered : (image : List ℕ) (P N : ℕ) → NumberedView (viewOf image P N)
+unfolding viewOf blockView
+view-numbered image P N q t r i e = go (headerBad N q (drop (q * P) image)) e
+  where
+    block : (l : Bool) (v : Verdict) → Numbered v → checkedView v (elementsView l (q * P) (blockOf image P q)) ≡ bad r i → 0 < r
+    block true verdict.Sound n h = absurd (let z : _≡_ {A = ℕ} 0 1 = cc in omega arith)
+    block false verdict.Sound n h = absurd (let z : _≡_ {A = ℕ} 0 1 = cc in omega arith)
+    block l (verdict.Breach k j) n h = let u : k ≡ r = cc in n r j (ap (λ (x : ℕ). verdict.Breach x j) u)
+
+    go : (h : Bool) → cond h (bad 3 0) (blockView (q * P) t (blockOf image P q)) ≡ bad r i → 0 < r
+    go true h = let u : 3 ≡ r = cc in omega arith
+    go false h = block (isLeaf (blockOf image P q)) (checkOf (isLeaf (blockOf image P q)) (t && isLeaf (blockOf image P q)) (blockOf image P q)) (check-numbered (isLeaf (blockOf image P q)) (t && isLeaf (blockOf image P q)) (blockOf image P q)) h
+
+abbrev Faulted : Walk → Type 0
+Faulted w = (r p i : ℕ) → w ≡ fault r p i → 0 < r
+
+all-faulted : (cs : List (Item ℕ)) (go : Walker) → ((p : ℕ) (low : Key) (high : Option Key) (vs : List ℕ) → Faulted (go p low high vs))
+    → (high : Option Key) (n : ℕ) (vs : List ℕ) → Faulted (walkAll go cs high n vs)
+unfolding walkAll
+all-faulted [] go f high n vs r p i e = absurd (let z : _≡_ {A = ℕ} 0 1 = cc in omega arith)
+all-faulted (c ∷ cs) go f high n vs r p i e = step (go (c .value) (c .key) (next cs high) vs) (f (c .value) (c .key) (next cs high) vs) (λ m ws. all-faulted cs go f high (n + m) ws) e
+  where
+    step : (w : Walk) → Faulted w → ((m : ℕ) (ws : List ℕ) → Faulted (walkAll go cs high (n + m) ws)) → thenWalk w (λ m ws. walkAll go cs high (n + m) ws) ≡ fault r p i → 0 < r
+    step (pass m ws) g ih h = ih m ws r p i h
+    step (fault k q j) g ih h = g r p i h
+
+module _ (N : ℕ) (view : ℕ → Bool → View Value) (numbered : NumberedView view) where
+  walk-faulted : (d : ℕ) (t : Bool) (q : ℕ) (low : Key) (high : Option Key) (vs : List ℕ) → Faulted (walk N view d t q low high vs)
+  unfolding walk walkPage
+  walk-faulted zero t q low high vs r p i e = let u : 9 ≡ r = cc in omega arith
+  walk-faulted (suc d) t q low high vs r p i e = go (inside N q) (memb q vs) e (λ a x y z. walk-faulted d false a x y z)
+    where
+      ranged : (o : Option ℕ) (w : Walk) → Faulted w → unlessOut o q w ≡ fault r p i → 0 < r
+      ranged none w f h = f r p i h
+      ranged (some j) w f h = let u : 7 ≡ r = cc in omega arith
+
+      passes : (n : ℕ) (ws : List ℕ) → Faulted (pass n ws)
+      passes n ws k a b h = absurd (let z : _≡_ {A = ℕ} 0 1 = cc in omega arith)
+
+      page : (v : View Value) → view q t ≡ v → ((a : ℕ) (x : Key) (y : Option Key) (z : List ℕ) → Faulted (walk N view d false a x y z))
+          → walkPage (walk N view d false) v q low high (q ∷ vs) ≡ fault r p i → 0 < r
+      page (bad k j) f ih h = let u : k ≡ r = cc in numbered q t r j (f ∙ ap (λ (x : ℕ). bad x j) u)
+      page (branch cs) f ih h = ranged (firstOut low high (keys cs) 0) (walkAll (walk N view d false) cs high 0 (q ∷ vs)) (all-faulted cs (walk N view d false) ih high 0 (q ∷ vs)) h
+      page (leaf es) f ih h = ranged (firstOut low high (keys es) 0) (pass (length es) (q ∷ vs)) (passes (length es) (q ∷ vs)) h
+
+      go : (a b : Bool) → cond a (cond b (fault 8 q 0) (walkPage (walk N view d false) (view q t) q low high (q ∷ vs))) (fault 2 q 0) ≡ fault r p i
+          → ((a : ℕ) (x : Key) (y : Option Key) (z : List ℕ) → Faulted (walk N view d false a x y z)) → 0 < r
+      go true true h ih = let u : 8 ≡ r = cc in omega arith
+      go true false h ih = page (view q t) refl ih h
+      go false b h ih = let u : 2 ≡ r = cc in omega arith
+
+-- ---- a judge that answers 0 has passed
+pub zero-passes : (image : List ℕ) (P N root f : ℕ) → judgeNumber (judgeOf image P N root f) ≡ 0 → Passes image P N root f
+unfolding judgeOf
+zero-passes image P N root f e = go (geometryBad image P N) refl e
+  where
+    listed : (vs : List ℕ) (n : ℕ) (v : Verdict) → Numbered v → judgedOf v f n (length (f ∷ vs)) ≡ judgeOf image P N root f → judgeNumber (judgedOf v f n (length (f ∷ vs))) ≡ 0 → Passes image P N root f
+    listed vs n verdict.Sound m j h = record { entries = n; blocks = length (f ∷ vs); passed = sym j }
+    listed vs n (verdict.Breach k i) m j h = absurd (let l = m k i refl in omega arith)
+
+    tree : (w : Walk) → Faulted w → afterTree image P N f w ≡ judgeOf image P N root f → judgeNumber (afterTree image P N f w) ≡ 0 → Passes image P N root f
+    tree (pass n vs) g j h = listed vs n (freelistOf image P N f vs) (list-numbered image P N f vs) j h
+    tree (fault k p i) g j h = absurd (let l = g k p i refl in omega arith)
+
+    go : (t : Bool) → geometryBad image P N ≡ t → judgeNumber (cond t (Refused (faultAt 1 0 0)) (afterTree image P N f (walk N (viewOf image P N) 16 true root [] none []))) ≡ 0 → Passes image P N root f
+    go true g h = absurd (omega arith)
+    go false g h =
+        tree (walk N (viewOf image P N) 16 true root [] none []) (walk-faulted N (viewOf image P N) (view-numbered image P N) 16 true root [] none [])
+        (rw g) h
+
+-- ---- and then every lookup answers 0
+pub lookup-zero : (image : List ℕ) (P N root f : ℕ) → Passes image P N root f → (key : Key) → numberOf (lookupOf image P N root key) ≡ 0
+lookup-zero image P N root f passes key = go (lookupOf image P N root key) refl
+  where
+    go : (a : Looked) → lookupOf image P N root key ≡ a → numberOf a ≡ 0
+    go (looked.Found v) e = refl
+    go looked.Absent e = refl
+    go (looked.Refused x) e = absurd (never-refused image P N root f passes key x e)
