@@ -46,14 +46,14 @@ pub fn u64_at(s: &[u8], at: usize) -> u64
     let a5 = a4 + 1;
     let a6 = a5 + 1;
     let a7 = a6 + 1;
-    byte_at(s, at)
-        + 256 * byte_at(s, a1)
-        + 65536 * byte_at(s, a2)
-        + 16777216 * byte_at(s, a3)
-        + 4294967296 * byte_at(s, a4)
-        + 1099511627776 * byte_at(s, a5)
-        + 281474976710656 * byte_at(s, a6)
-        + 72057594037927936 * byte_at(s, a7)
+    let v = byte_at(s, a7);
+    let v = byte_at(s, a6) + 256 * v;
+    let v = byte_at(s, a5) + 256 * v;
+    let v = byte_at(s, a4) + 256 * v;
+    let v = byte_at(s, a3) + 256 * v;
+    let v = byte_at(s, a2) + 256 * v;
+    let v = byte_at(s, a1) + 256 * v;
+    byte_at(s, at) + 256 * v
 }
 
 // The big-endian u64 of the eight bytes from `at` on: two of them stand as the bytes do.
@@ -68,14 +68,14 @@ pub fn big_u64_at(s: &[u8], at: usize) -> u64
     let a5 = a4 + 1;
     let a6 = a5 + 1;
     let a7 = a6 + 1;
-    72057594037927936 * byte_at(s, at)
-        + 281474976710656 * byte_at(s, a1)
-        + 1099511627776 * byte_at(s, a2)
-        + 4294967296 * byte_at(s, a3)
-        + 16777216 * byte_at(s, a4)
-        + 65536 * byte_at(s, a5)
-        + 256 * byte_at(s, a6)
-        + byte_at(s, a7)
+    let v = byte_at(s, at);
+    let v = byte_at(s, a1) + 256 * v;
+    let v = byte_at(s, a2) + 256 * v;
+    let v = byte_at(s, a3) + 256 * v;
+    let v = byte_at(s, a4) + 256 * v;
+    let v = byte_at(s, a5) + 256 * v;
+    let v = byte_at(s, a6) + 256 * v;
+    byte_at(s, a7) + 256 * v
 }
 
 // Puts the four bytes of `v` at `at`.
