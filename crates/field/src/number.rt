@@ -20,62 +20,52 @@ pub fn byte_at(s: &[u8], at: usize) -> u64
     wide(s[at])
 }
 
+// The number of the four bytes from `at` on, the lowest first.
+fn four_at(s: &[u8], at: usize) -> u64
+    requires { ⌜ at + 4 ≤ length (now s) ⌝ }
+    ensures { λ r. ⌜ (r ≡ field 4 (now (s .entry)) at) × (r < 4294967296) ⌝ }
+{
+    let a1 = at + 1;
+    let a2 = a1 + 1;
+    let a3 = a2 + 1;
+    byte_at(s, at) + 256 * byte_at(s, a1) + 65536 * byte_at(s, a2) + 16777216 * byte_at(s, a3)
+}
+
+// The number of the four bytes from `at` on, the highest first.
+fn big_four_at(s: &[u8], at: usize) -> u64
+    requires { ⌜ at + 4 ≤ length (now s) ⌝ }
+    ensures { λ r. ⌜ (r ≡ bigField 4 (now (s .entry)) at) × (r < 4294967296) ⌝ }
+{
+    let a1 = at + 1;
+    let a2 = a1 + 1;
+    let a3 = a2 + 1;
+    16777216 * byte_at(s, at) + 65536 * byte_at(s, a1) + 256 * byte_at(s, a2) + byte_at(s, a3)
+}
+
 // The u32 of the four bytes from `at` on.
 pub fn u32_at(s: &[u8], at: usize) -> u32
     requires { ⌜ at + 4 ≤ length (now s) ⌝ }
     ensures { λ r. ⌜ r ≡ field 4 (now (s .entry)) at ⌝ }
 {
-    let a1 = at + 1;
-    let a2 = a1 + 1;
-    let a3 = a2 + 1;
-    (byte_at(s, at)
-        + 256 * byte_at(s, a1)
-        + 65536 * byte_at(s, a2)
-        + 16777216 * byte_at(s, a3)) as u32
+    four_at(s, at) as u32
 }
 
-// The u64 of the eight bytes from `at` on.
+// The u64 of the eight bytes from `at` on. Read as two halves, it is one load in machine code.
 pub fn u64_at(s: &[u8], at: usize) -> u64
     requires { ⌜ at + 8 ≤ length (now s) ⌝ }
     ensures { λ r. ⌜ r ≡ field 8 (now (s .entry)) at ⌝ }
 {
-    let a1 = at + 1;
-    let a2 = a1 + 1;
-    let a3 = a2 + 1;
-    let a4 = a3 + 1;
-    let a5 = a4 + 1;
-    let a6 = a5 + 1;
-    let a7 = a6 + 1;
-    let v = byte_at(s, a7);
-    let v = byte_at(s, a6) + 256 * v;
-    let v = byte_at(s, a5) + 256 * v;
-    let v = byte_at(s, a4) + 256 * v;
-    let v = byte_at(s, a3) + 256 * v;
-    let v = byte_at(s, a2) + 256 * v;
-    let v = byte_at(s, a1) + 256 * v;
-    byte_at(s, at) + 256 * v
+    let a4 = at + 1 + 1 + 1 + 1;
+    four_at(s, at) + 4294967296 * four_at(s, a4)
 }
 
-// The big-endian u64 of the eight bytes from `at` on: two of them stand as the bytes do.
+// The big-endian u64 of the eight bytes from `at` on: two of them stand as the bytes do. It is a load and a byte swap.
 pub fn big_u64_at(s: &[u8], at: usize) -> u64
     requires { ⌜ at + 8 ≤ length (now s) ⌝ }
     ensures { λ r. ⌜ r ≡ bigField 8 (now (s .entry)) at ⌝ }
 {
-    let a1 = at + 1;
-    let a2 = a1 + 1;
-    let a3 = a2 + 1;
-    let a4 = a3 + 1;
-    let a5 = a4 + 1;
-    let a6 = a5 + 1;
-    let a7 = a6 + 1;
-    let v = byte_at(s, at);
-    let v = byte_at(s, a1) + 256 * v;
-    let v = byte_at(s, a2) + 256 * v;
-    let v = byte_at(s, a3) + 256 * v;
-    let v = byte_at(s, a4) + 256 * v;
-    let v = byte_at(s, a5) + 256 * v;
-    let v = byte_at(s, a6) + 256 * v;
-    byte_at(s, a7) + 256 * v
+    let a4 = at + 1 + 1 + 1 + 1;
+    4294967296 * big_four_at(s, at) + big_four_at(s, a4)
 }
 
 // Puts the four bytes of `v` at `at`.

@@ -1,4 +1,4 @@
--- `field::number::big_u64_at` meets its contract: the sum is the number, the highest byte first. Assumes nothing.
+-- `field::number::big_u64_at` meets its contract: the two halves are the number, the highest byte first. Assumes nothing.
 use borrow.Author.Needs.{needs}
 use Rattle.field.specs.Field.{bigField}
 use Rattle.field.proofs.number.big_u64_at.Statement.{statement}
@@ -12,9 +12,5 @@ pub big-u64-at-spec : {M : Type 1} → statement M
 big-u64-at-spec =
     tie.close
     (tie.spec
-    (λ c. search needs) (λ c. search needs) (λ c. search needs) (λ c. search needs) (λ c. search needs)
-    (λ c. search needs) (λ c. search needs) (λ c κs. search needs) (λ c κs. search needs) (λ c. search needs)
-    (λ c. search needs) (λ c κs. search needs) (λ c. search needs) (λ c. search needs) (λ c κs. search needs)
-    (λ c. search needs) (λ c. search needs) (λ c κs. search needs) (λ c. search needs) (λ c. search needs)
-    (λ c κs. search needs) (λ c. search needs) (λ c. search needs) (λ c κs. search needs) (λ c. search needs)
-    (λ c. search needs) (λ c κs. search needs) (λ c. search needs) (λ c. search needs) returns)
+    (λ c. search needs) (λ c. search needs) (λ c. search needs) (λ c. search needs) (λ c κs. search needs)
+    (λ c. search needs) (λ c κs. search needs) (λ c. search needs) returns)

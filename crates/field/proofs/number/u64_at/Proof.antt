@@ -1,4 +1,4 @@
--- `field::number::u64_at` meets its contract: the sum is the field. Assumes nothing.
+-- `field::number::u64_at` meets its contract: the two halves are the field. Assumes nothing.
 use borrow.Author.Needs.{needs}
 use Rattle.field.specs.Field.{field}
 use Rattle.field.proofs.number.u64_at.Statement.{statement}
@@ -12,9 +12,5 @@ pub u64-at-spec : {M : Type 1} → statement M
 u64-at-spec =
     tie.close
     (tie.spec
-    (λ c. search needs) (λ c. search needs) (λ c. search needs) (λ c. search needs) (λ c. search needs)
-    (λ c. search needs) (λ c. search needs) (λ c κs. search needs) (λ c κs. search needs) (λ c. search needs)
-    (λ c. search needs) (λ c κs. search needs) (λ c. search needs) (λ c. search needs) (λ c κs. search needs)
-    (λ c. search needs) (λ c. search needs) (λ c κs. search needs) (λ c. search needs) (λ c. search needs)
-    (λ c κs. search needs) (λ c. search needs) (λ c. search needs) (λ c κs. search needs) (λ c. search needs)
-    (λ c. search needs) (λ c κs. search needs) (λ c. search needs) (λ c. search needs) returns)
+    (λ c. search needs) (λ c. search needs) (λ c. search needs) (λ c. search needs) (λ c κs. search needs)
+    (λ c κs. search needs) (λ c. search needs) (λ c. search needs) returns)

@@ -1,17 +1,17 @@
--- `field::number::u32_at` meets its contract: the sum is the field. Assumes nothing.
+-- `field::number::four_at` meets its contract: the sum is the field. Assumes nothing.
 use borrow.Author.Needs.{needs}
 use Rattle.field.specs.Field.{field}
-use Rattle.field.proofs.number.u32_at.Statement.{statement}
-use Rattle.field.proofs.number.u32_at.Tie as tie
+use Rattle.field.proofs.number.four_at.Statement.{statement}
+use Rattle.field.proofs.number.four_at.Tie as tie
 
 returns : tie.Need-returns
 unfolding field
 returns c = search needs
 
-pub u32-at-spec : {M : Type 1} → statement M
-u32-at-spec =
+pub four-at-spec : {M : Type 1} → statement M
+four-at-spec =
     tie.close
     (tie.spec
     (λ c. search needs) (λ c. search needs) (λ c. search needs) (λ c κs. search needs) (λ c κs. search needs)
     (λ c. search needs) (λ c. search needs) (λ c κs. search needs) (λ c. search needs) (λ c. search needs)
-    (λ c κs. search needs) (λ c. search needs) (λ c. search needs) (λ c. search needs) returns)
+    (λ c κs. search needs) (λ c. search needs) (λ c. search needs) returns)
