@@ -1,5 +1,6 @@
 -- When a call is done: exactly when the table passes and its own conditions hold.
 -- Assumes nothing.
+use Rattle.field.specs.Sizes.{sizeAllowed}
 use mathlib.Core.Path.{_≡_, refl, ap}
 use mathlib.Core.Logic.{_↔_}
 use mathlib.Core.List.{List}
@@ -13,7 +14,7 @@ use Rattle.freelist.specs.declared.table.State.the-variants.{InUse, Free
 use Rattle.freelist.specs.Table.{stateOf, isState, isInUse}
 use Rattle.freelist.specs.Pages.{_∈_, all, rising}
 use Rattle.freelist.specs.Answers.{_orElse_, _andThen_}
-use Rattle.freelist.specs.Freelist.{allowedSize, faultOf, initial, initNumber, inside, freeNumber, requestFault}
+use Rattle.freelist.specs.Freelist.{faultOf, initial, initNumber, inside, freeNumber, requestFault}
 use Rattle.freelist.proofs.PageLaws.{clash, all-of, all-row-of, all-row-at}
 use Rattle.freelist.proofs.AnswerLaws.{held, both-zero}
 use Rattle.freelist.proofs.FaultLaws.{passes, no-fault}
@@ -62,12 +63,12 @@ free-iff t n p count = (there, back)
 
 -- bytes are asked for with no cause of 1 or 11
 pub request-iff : (t : List ℕ) (n size bytes : ℕ)
-    → (requestFault t n size bytes ≡ 0) ↔ ((faultOf t n ≡ 0) × (allowedSize size ≡ true) × (40 ≤ bytes))
+    → (requestFault t n size bytes ≡ 0) ↔ ((faultOf t n ≡ 0) × (sizeAllowed size ≡ true) × (40 ≤ bytes))
 unfolding requestFault
 request-iff t n size bytes = (there, λ h. rw (h .1, h .0, le-leb 40 bytes (h .2)))
   where
-    there : requestFault t n size bytes ≡ 0 → (faultOf t n ≡ 0) × (allowedSize size ≡ true) × (40 ≤ bytes)
+    there : requestFault t n size bytes ≡ 0 → (faultOf t n ≡ 0) × (sizeAllowed size ≡ true) × (40 ≤ bytes)
     there e =
-        let y = both-zero (allowedSize size orElse 1) (faultOf t n andThen leb 40 bytes orElse 11) e in
+        let y = both-zero (sizeAllowed size orElse 1) (faultOf t n andThen leb 40 bytes orElse 11) e in
         let z = both-zero (faultOf t n) (leb 40 bytes orElse 11) (y .1) in
         (z .0, held _ 0 (y .0), leb-true 40 bytes (held _ 10 (z .1)))

@@ -1,5 +1,6 @@
 -- What `faultOf` answers, and what it means that a table passes.
 -- Assumes nothing.
+use Rattle.field.specs.Sizes.{countAllowed}
 use mathlib.Core.Path.{_≡_, sym}
 use mathlib.Core.List.{List}
 use mathlib.Core.Bool.{Bool, true}
@@ -11,7 +12,7 @@ use lib.ListN.{length}
 use Rattle.freelist.specs.Table.{stateOf, isState}
 use Rattle.freelist.specs.Pages.{all, pagesOf}
 use Rattle.freelist.specs.Answers.{_orElse_}
-use Rattle.freelist.specs.Freelist.{hasRoom, allowedCount, faultOf}
+use Rattle.freelist.specs.Freelist.{hasRoom, faultOf}
 use Rattle.freelist.proofs.AnswerLaws.{held, both-zero}
 use Rattle.freelist.proofs.PageLaws.{and-parts, all-row-of, all-row-at}
 
@@ -22,15 +23,15 @@ module _ (t : List ℕ) (n : ℕ) where
   short h = rw (lt-leb 33792 (length t) h)
 
   pub low : 33792 ≤ length t → n < 2 → 1 ≡ faultOf t n
-  unfolding faultOf hasRoom allowedCount
+  unfolding faultOf hasRoom
   low l h = rw (le-leb 33792 (length t) l, lt-leb 2 n h)
 
   pub high : 33792 ≤ length t → 2 ≤ n → 32768 < n → 1 ≡ faultOf t n
-  unfolding faultOf hasRoom allowedCount
+  unfolding faultOf hasRoom
   high l m h = rw (le-leb 33792 (length t) l, le-leb 2 n m, lt-leb n 32768 h)
 
   pub asked : 33792 ≤ length t → 2 ≤ n → n ≤ 32768 → (b : Bool) → all (λ k. isState (stateOf t k)) (pagesOf n) ≡ b → (b orElse 11) ≡ faultOf t n
-  unfolding faultOf hasRoom allowedCount
+  unfolding faultOf hasRoom
   asked l m h b e = rw (le-leb 33792 (length t) l, le-leb 2 n m, le-leb n 32768 h, e)
 
 -- ---- a table that passes
@@ -42,10 +43,10 @@ pub record Passes (t : List ℕ) (n : ℕ) : Type 0 where
   pub states : (k : ℕ) → 2 ≤ k → k < n → isState (stateOf t k) ≡ true
 
 pub passes : (t : List ℕ) (n : ℕ) → faultOf t n ≡ 0 → Passes t n
-unfolding faultOf hasRoom allowedCount
+unfolding faultOf hasRoom
 passes t n e =
     let z = both-zero _ _ e in
-    let x = and-parts (hasRoom t) (allowedCount n) (held _ 0 (z .0)) in
+    let x = and-parts (hasRoom t) (countAllowed n) (held _ 0 (z .0)) in
     let y = and-parts (leb 2 n) (leb n 32768) (x .1) in
     let m = leb-true 2 n (y .0) in
     record {

@@ -1,5 +1,6 @@
 -- What `allocate` hands out: pages that were free, the lowest run of them, or pages from n on where there is none; what it does to the
 -- state of every page; and that it is refused with 12 exactly when there is neither a run nor room. Assumes nothing.
+use Rattle.field.specs.Sizes.{sizeAllowed, countAllowed}
 use mathlib.Core.Path.{_≡_, refl, sym, ap, _∙_}
 use mathlib.Core.Logic.{_↔_, _⊎_, ⊎-elim}
 use mathlib.Core.List.{List}
@@ -15,7 +16,7 @@ use Rattle.freelist.specs.declared.Allocated.the-variants.{At, Refused}
 use Rattle.freelist.specs.Table.{stateOf, isState}
 use Rattle.freelist.specs.Pages.{_∈_, row, pagesOf, all, each}
 use Rattle.freelist.specs.Answers.{_orElse_, _andThen_}
-use Rattle.freelist.specs.Freelist.{hasRoom, allowedCount, allowedSize, faultOf, requestFault, pagesNeeded, FreeRun, lowest, countAfter, allocateNumber, allocateAnswer, allocateTable}
+use Rattle.freelist.specs.Freelist.{hasRoom, faultOf, requestFault, pagesNeeded, FreeRun, lowest, countAfter, allocateNumber, allocateAnswer, allocateTable}
 use Rattle.freelist.proofs.PageLaws.{in-row, row-in, rising-row}
 use Rattle.freelist.proofs.EachLaws.{each-in, each-out}
 use Rattle.freelist.proofs.AnswerLaws.{held, both-zero}
@@ -150,7 +151,7 @@ not-twelve true true true true e = omega arith
 
 request-not-twelve : (t : List ℕ) (n size bytes : ℕ) → requestFault t n size bytes ≡ 12 → ⊥
 unfolding requestFault faultOf
-request-not-twelve t n size bytes = not-twelve (allowedSize size) (hasRoom t && allowedCount n) (all (λ k. isState (stateOf t k)) (pagesOf n)) (leb 40 bytes)
+request-not-twelve t n size bytes = not-twelve (sizeAllowed size) (hasRoom t && countAllowed n) (all (λ k. isState (stateOf t k)) (pagesOf n)) (leb 40 bytes)
 
 failed : (b : Bool) → (b orElse 12) ≡ 12 → b ≡ false
 failed true e = absurd (omega arith)

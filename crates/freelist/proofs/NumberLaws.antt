@@ -1,5 +1,6 @@
 -- The numbers of `init`, `free` and `allocate`: by what their code found, and what it means that one is 0.
 -- Assumes nothing.
+use Rattle.field.specs.Sizes.{sizeAllowed}
 use mathlib.Core.Path.{_≡_, refl, sym, ap, _∙_}
 use mathlib.Core.List.{List}
 use mathlib.Core.Bool.{Bool, true, false, _&&_}
@@ -12,7 +13,7 @@ use Rattle.freelist.specs.Table.{stateOf, isInUse}
 use Rattle.freelist.specs.Pages.{_∈_, row, all, rising}
 use Rattle.freelist.specs.declared.Listed.the-variants.{Count}
 use Rattle.freelist.specs.Answers.{_orElse_, _andThen_, listedOf}
-use Rattle.freelist.specs.Freelist.{hasRoom, allowedSize, faultOf, newNumber, initial, initNumber, inside, freeNumber, requestFault, listing, pagesNumber}
+use Rattle.freelist.specs.Freelist.{hasRoom, faultOf, newNumber, initial, initNumber, inside, freeNumber, requestFault, listing, pagesNumber}
 use Rattle.freelist.proofs.PageLaws.{and-parts, all-at}
 use Rattle.freelist.proofs.AnswerLaws.{held, both-zero, first-number, next-number}
 use Rattle.freelist.proofs.FaultLaws.{Passes, passes}
@@ -112,20 +113,7 @@ module _ (t : List ℕ) (n p count : ℕ) where
 
 -- ---- allocate
 module _ (size : ℕ) where
-  pub size-low : size < 1024 → false ≡ allowedSize size
-  unfolding allowedSize
-  size-low h = rw (lt-leb 1024 size h)
-
-  pub size-high : 1024 ≤ size → 65536 < size → false ≡ allowedSize size
-  unfolding allowedSize
-  size-high l h = rw (le-leb 1024 size l, lt-leb size 65536 h)
-
-  pub size-rest : 1024 ≤ size → size ≤ 65536 → eqb (size % 8) 0 ≡ allowedSize size
-  unfolding allowedSize
-  size-rest l h = rw (le-leb 1024 size l, le-leb size 65536 h)
-
-  size-is : allowedSize size ≡ true → 1024 ≤ size
-  unfolding allowedSize
+  size-is : sizeAllowed size ≡ true → 1024 ≤ size
   size-is e = leb-true 1024 size (and-parts (leb 1024 size) (leb size 65536 && eqb (size % 8) 0) e .0)
 
 -- what every cause of 1 and 11 leaves
@@ -135,22 +123,22 @@ pub record Requested (t : List ℕ) (n size bytes : ℕ) : Type 0 where
   pub some : 40 ≤ bytes
 
 module _ (t : List ℕ) (n size bytes : ℕ) where
-  pub request-size : allowedSize size ≡ false → 1 ≡ requestFault t n size bytes
+  pub request-size : sizeAllowed size ≡ false → 1 ≡ requestFault t n size bytes
   unfolding requestFault
   request-size e = rw e
 
-  pub request-fault : allowedSize size ≡ true → (b : ℕ) → b ≡ faultOf t n → (b ≡ 0 → ⊥) → b ≡ requestFault t n size bytes
+  pub request-fault : sizeAllowed size ≡ true → (b : ℕ) → b ≡ faultOf t n → (b ≡ 0 → ⊥) → b ≡ requestFault t n size bytes
   unfolding requestFault
   request-fault s b e z = rw s (first-number b (faultOf t n) e _ z)
 
-  pub request-by : allowedSize size ≡ true → (b : ℕ) → b ≡ faultOf t n → b ≡ 0 → (x : Bool) → leb 40 bytes ≡ x → (x orElse 11) ≡ requestFault t n size bytes
+  pub request-by : sizeAllowed size ≡ true → (b : ℕ) → b ≡ faultOf t n → b ≡ 0 → (x : Bool) → leb 40 bytes ≡ x → (x orElse 11) ≡ requestFault t n size bytes
   unfolding requestFault
   request-by s b e z x h = rw (s, ← h) (next-number b (faultOf t n) e _ z)
 
   pub requested : requestFault t n size bytes ≡ 0 → Requested t n size bytes
   unfolding requestFault
   requested e =
-      let y = both-zero (allowedSize size orElse 1) (faultOf t n andThen leb 40 bytes orElse 11) e in
+      let y = both-zero (sizeAllowed size orElse 1) (faultOf t n andThen leb 40 bytes orElse 11) e in
       let z = both-zero (faultOf t n) (leb 40 bytes orElse 11) (y .1) in
       record { table = passes t n (z .0); wide = size-is size (held _ 0 (y .0)); some = leb-true 40 bytes (held _ 10 (z .1)) }
 

@@ -1,5 +1,6 @@
 -- What each call does to the state of every page, in its pages and out of them, that a table without fault stays one, and that the words
 -- past the table's 33,792 stay. Assumes nothing.
+use Rattle.field.specs.Sizes.{countAllowed}
 use mathlib.Core.Path.{_≡_, refl, ap, _∙_}
 use mathlib.Core.Logic.{_⊎_, inl, inr, ⊎-elim}
 use mathlib.Core.List.{List, [], _∷_, _++_, List·Memᴰ·head, List·Memᴰ·tail, List·Memᴰ·cases-cons, List·Memᴰ·not-nil}
@@ -17,7 +18,7 @@ use Rattle.freelist.specs.declared.table.State.{State}
 use Rattle.freelist.specs.declared.table.State.the-variants.{InUse, Free, Pending, Broken}
 use Rattle.freelist.specs.Table.{bit, stateOf, isState}
 use Rattle.freelist.specs.Pages.{_∈_, row, pagesOf, rising, each}
-use Rattle.freelist.specs.Freelist.{hasRoom, allowedCount, faultOf, newNumber, newTable, initNumber, initTable, freeNumber, freeTable, ripe, releaseTable}
+use Rattle.freelist.specs.Freelist.{hasRoom, faultOf, newNumber, newTable, initNumber, initTable, freeNumber, freeTable, ripe, releaseTable}
 use Rattle.freelist.proofs.PageLaws.{and-parts, in-row, row-in, rising-row}
 use Rattle.freelist.proofs.EachLaws.{length-each, each-in, each-out, each-word}
 use Rattle.freelist.proofs.AnswerLaws.{held}
@@ -88,8 +89,8 @@ module _ (t : List ℕ) (done : newNumber t ≡ 0) where
   new-all q l = rw (bit-off q (omega arith), bit-off (32768 + q) (omega arith))
 
   -- so that it passes with every page count that is allowed
-  pub new-passes : (n : ℕ) → allowedCount n ≡ true → faultOf (newTable t) n ≡ 0
-  unfolding newTable allowedCount
+  pub new-passes : (n : ℕ) → countAllowed n ≡ true → faultOf (newTable t) n ≡ 0
+  unfolding newTable
   new-passes n ok =
       let l = long in
       let r = length-replicate {A = ℕ} 1024 0 in

@@ -1,5 +1,6 @@
 -- Freelist and allocation: for each call the number that it answers, and the table or the list that it leaves where that is 0.
 -- Assumes nothing.
+use Rattle.field.specs.Sizes.{sizeAllowed, countAllowed}
 use mathlib.Core.Path.{_≡_}
 use mathlib.Core.List.{List}
 use mathlib.Core.Bool.{Bool, cond, _&&_}
@@ -20,17 +21,9 @@ use Rattle.freelist.specs.Answers.{_orElse_, _andThen_, allocatedOf}
 unfoldable pub hasRoom : List ℕ → Bool
 hasRoom t = leb 33792 (length t)
 
--- page count: 2 to 32,768
-unfoldable pub allowedCount : ℕ → Bool
-allowedCount n = leb 2 n && leb n 32768
-
--- page size: 1,024 to 65,536 and a multiple of 8
-unfoldable pub allowedSize : ℕ → Bool
-allowedSize size = leb 1024 size && (leb size 65536 && eqb (size % 8) 0)
-
 -- a table too short, or a page count not allowed, is 1; a page from 2 to n - 1 that is in none of the three states is 11
 unfoldable pub faultOf : List ℕ → ℕ → ℕ
-faultOf t n = (hasRoom t && allowedCount n) orElse 1 andThen all (λ k. isState (stateOf t k)) (pagesOf n) orElse 11
+faultOf t n = (hasRoom t && countAllowed n) orElse 1 andThen all (λ k. isState (stateOf t k)) (pagesOf n) orElse 11
 
 -- ---- a new table
 
@@ -107,7 +100,7 @@ countAfter t n pages = cond (ltb (lowest t n pages) n) n (n + pages)
 
 -- every cause of 1 and 11: a page size not allowed is 1, and fewer than 40 bytes are 11
 unfoldable pub requestFault : List ℕ → ℕ → ℕ → ℕ → ℕ
-requestFault t n size bytes = allowedSize size orElse 1 andThen faultOf t n andThen leb 40 bytes orElse 11
+requestFault t n size bytes = sizeAllowed size orElse 1 andThen faultOf t n andThen leb 40 bytes orElse 11
 
 -- then 12 where the count would exceed 32,768
 unfoldable pub allocateNumber : List ℕ → ℕ → ℕ → ℕ → ℕ

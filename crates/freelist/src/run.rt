@@ -3,30 +3,18 @@ ghost use mathlib.Core.Path.{_≡_};
 ghost use Prim.Native.Nat.{_≤_};
 ghost use lib.ListN.{length};
 ghost use Rattle.freelist.specs.Table.{isFree};
-ghost use Rattle.freelist.specs.Freelist.{allowedSize, requestFault, pagesNeeded, lowest};
+ghost use Rattle.freelist.specs.Freelist.{requestFault, pagesNeeded, lowest};
 use super::HEADER_SIZE;
 use super::check::fault;
 use super::table::State;
 use super::table::state_of;
-
-// Whether the page size is 1,024 to 65,536 and a multiple of 8.
-fn is_allowed(page_size: u64) -> bool
-    ensures { λ r. ⌜ r ≡ allowedSize «page_size» ⌝ }
-{
-    if page_size < 1024 {
-        return false;
-    }
-    if page_size > 65536 {
-        return false;
-    }
-    page_size % 8 == 0
-}
+use field::sizes::size_allowed;
 
 // The number that a request for bytes gives by every cause of 1 and 11, 0 where it passes.
 pub fn request_fault(t: &[u64], n: u64, page_size: u64, bytes: u64) -> u64
     ensures { λ r. ⌜ r ≡ requestFault (now (t .entry)) n «page_size» bytes ⌝ }
 {
-    if !is_allowed(page_size) {
+    if !size_allowed(page_size as usize) {
         return 1;
     }
     let bad = fault(t, n);
