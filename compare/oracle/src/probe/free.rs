@@ -34,7 +34,11 @@ impl FreeTable {
         let start = super::caught(|| self.inner.allocate(bytes).unwrap().id)?;
         self.inner.pages.clear();
         self.inner.arena.reset();
-        Some((start, self.inner.meta.num_pages))
+        Some((start, self.num_pages()))
+    }
+
+    pub fn num_pages(&self) -> u64 {
+        self.inner.meta.num_pages
     }
 
     pub fn pages(&self) -> Vec<u64> {

@@ -1,0 +1,1 @@
+use super::Run; pub fn run(_run: &mut Run) {}
