@@ -4,8 +4,18 @@ use std::path::{Path, PathBuf};
 use std::{env, fs};
 
 const FILES: [&str; 12] = [
-    "bucket.rs", "bytes.rs", "cursor.rs", "data.rs", "db.rs", "errors.rs", "freelist.rs", "meta.rs", "node.rs", "page.rs",
-    "page_node.rs", "tx.rs",
+    "bucket.rs",
+    "bytes.rs",
+    "cursor.rs",
+    "data.rs",
+    "db.rs",
+    "errors.rs",
+    "freelist.rs",
+    "meta.rs",
+    "node.rs",
+    "page.rs",
+    "page_node.rs",
+    "tx.rs",
 ];
 
 fn main() {

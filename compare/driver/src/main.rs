@@ -2,6 +2,7 @@
 
 mod by_reading;
 mod make;
+mod panics;
 mod parts;
 mod rng;
 mod tally;
@@ -23,7 +24,7 @@ struct Part {
     rounds: usize,
 }
 
-const PARTS: [Part; 11] = [
+const PARTS: [Part; 12] = [
     Part { name: "examples", against: "01's examples", run: parts::examples::run, rounds: 1 },
     Part { name: "refusals", against: "01's rules", run: parts::refusals::run, rounds: 1 },
     Part { name: "answers", against: "01's rules", run: parts::answers::run, rounds: 1 },
@@ -34,6 +35,7 @@ const PARTS: [Part; 11] = [
     Part { name: "meta", against: "the crate", run: parts::meta::run, rounds: 3_000 },
     Part { name: "tree", against: "the crate", run: parts::tree::run, rounds: 300 },
     Part { name: "hostile", against: "the reading", run: parts::hostile::run, rounds: 300 },
+    Part { name: "findings", against: "FINDINGS.md", run: parts::findings::run, rounds: 1 },
     Part { name: "files", against: "the crate", run: parts::files::run, rounds: 1 },
 ];
 
@@ -48,24 +50,34 @@ struct Options {
 }
 
 fn main() -> ExitCode {
-    std::panic::set_hook(Box::new(|_| {}));
     let options = options();
-    let start = Instant::now();
-    let mut total = Tally::default();
-    compare(&by_reading::Reading, &PARTS, &options, &mut total);
-    compare(&by_reading::Reading, &READING_PARTS, &options, &mut total);
-    #[cfg(feature = "proved")]
-    compare(&proved::Proved, &PARTS, &options, &mut total);
-    println!("{} passed, {} failed, {:.1} s", total.passed, total.failed, start.elapsed().as_secs_f64());
-    if total.failed == 0 {
-        ExitCode::SUCCESS
-    } else {
-        ExitCode::FAILURE
+    panics::keep();
+    match std::panic::catch_unwind(|| compare_all(&options)) {
+        Ok(0) => ExitCode::SUCCESS,
+        Ok(_) => ExitCode::FAILURE,
+        Err(_) => {
+            println!("the comparison stopped: {}", panics::last());
+            ExitCode::FAILURE
+        }
     }
 }
 
+/// Compares every subject and answers how much failed.
+fn compare_all(options: &Options) -> u64 {
+    let start = Instant::now();
+    let mut total = Tally::default();
+    compare(&by_reading::Reading, &PARTS, options, &mut total);
+    compare(&by_reading::Reading, &READING_PARTS, options, &mut total);
+    #[cfg(feature = "proved")]
+    compare(&proved::Proved, &PARTS, options, &mut total);
+    println!("{} passed, {} failed, {:.1} s", total.passed, total.failed, start.elapsed().as_secs_f64());
+    total.failed
+}
+
 fn compare(subject: &dyn Subject, parts: &[Part], options: &Options, total: &mut Tally) {
-    for part in parts.iter().filter(|part| options.parts.is_empty() || options.parts.iter().any(|name| name == part.name)) {
+    for part in
+        parts.iter().filter(|part| options.parts.is_empty() || options.parts.iter().any(|name| name == part.name))
+    {
         let start = Instant::now();
         let rounds = part.rounds * options.rounds;
         let mut run = Run { subject, rng: Rng::new(options.seed), rounds, tally: Tally::default() };

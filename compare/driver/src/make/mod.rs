@@ -4,6 +4,7 @@ pub mod block;
 pub mod content;
 pub mod fields;
 pub mod loose;
+pub mod store;
 pub mod tree;
 
 use crate::rng::Rng;

@@ -57,7 +57,8 @@ pub fn tree(rng: &mut Rng, shape: &Shape) -> Tree {
         image[at..at + block.len()].copy_from_slice(&block);
     }
     let freelist = starts[nodes.len()];
-    let ids: Vec<u64> = (2..n).filter(|id| !starts.contains(id) && rng.one_in(2)).take(shape.p as usize / 8 - 4).collect();
+    let ids: Vec<u64> =
+        (2..n).filter(|id| !starts.contains(id) && rng.one_in(2)).take(shape.p as usize / 8 - 4).collect();
     let block = freelist_block(shape.p, freelist, sizes[nodes.len()], &ids);
     let at = (freelist * shape.p) as usize;
     image[at..at + block.len()].copy_from_slice(&block);

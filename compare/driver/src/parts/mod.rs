@@ -3,6 +3,7 @@
 pub mod answers;
 pub mod examples;
 pub mod files;
+pub mod findings;
 pub mod freelist;
 pub mod hostile;
 pub mod meta;

@@ -137,7 +137,9 @@ fn edited<const F: usize>(
         }
         (Some(_), _) => tally.same((answer.number, answer.fields, kept(&out)), (15, [0; F], true), &what),
         (None, _) => {
-            tally.check([11, 14].contains(&answer.number), || format!("{}: {} where the crate panics", what(), answer.number));
+            tally.check([11, 14].contains(&answer.number), || {
+                format!("{}: {} where the crate panics", what(), answer.number)
+            });
             tally.same((answer.fields, kept(&out)), ([0; F], true), &what);
         }
     }

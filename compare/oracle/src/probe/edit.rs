@@ -2,8 +2,8 @@
 
 use super::aligned::Aligned;
 use super::build::{branch, leaf, node_of_block, node_size, write_block, Item};
-use super::search::item;
 use super::caught;
+use super::search::item;
 use crate::bytes::Bytes;
 use crate::node::Node;
 

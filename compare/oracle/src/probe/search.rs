@@ -11,7 +11,7 @@ use super::build::{node_of_block, Item};
 use super::caught;
 use crate::bucket::{BucketMeta, InnerBucket};
 use crate::node::Leaf;
-use crate::page::Pages;
+use crate::page::{Page, Pages};
 use crate::page_node::PageNode;
 
 /// `index` on the page and on the node read from it.
@@ -66,6 +66,15 @@ impl Image {
         let start = self.pages.data.as_ptr() as usize;
         let place = leaf.is_kv().then(|| (value.as_ptr() as usize - start) as u64);
         Some(Hit { kind: u64::from(leaf.node_type()), place, value: value.to_vec() })
+    }
+
+    /// The blocks of the tree under this root.
+    pub fn blocks(&self, root: u64) -> u64 {
+        let page = self.pages.page(root);
+        if page.page_type == Page::TYPE_LEAF {
+            return 1;
+        }
+        1 + page.branch_elements().iter().map(|element| self.blocks(element.page)).sum::<u64>()
     }
 }
 

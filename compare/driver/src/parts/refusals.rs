@@ -1,1 +1,0 @@
-use super::Run; pub fn run(_run: &mut Run) {}
