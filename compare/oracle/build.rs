@@ -1,4 +1,5 @@
-//! Writes the root that names the crate's files where they lie: JAMMDB_SRC, or ../shared/docs/src beside the repository.
+//! Writes the root that names the crate's files where they lie: in JAMMDB_SRC, or in ../shared/docs/src beside the
+//! repository.
 
 use std::path::{Path, PathBuf};
 use std::{env, fs};

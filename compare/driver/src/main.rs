@@ -49,6 +49,12 @@ struct Options {
     parts: Vec<String>,
 }
 
+impl Options {
+    fn wants(&self, part: &str) -> bool {
+        self.parts.is_empty() || self.parts.iter().any(|name| name == part)
+    }
+}
+
 fn main() -> ExitCode {
     let options = options();
     panics::keep();
@@ -75,17 +81,16 @@ fn compare_all(options: &Options) -> u64 {
 }
 
 fn compare(subject: &dyn Subject, parts: &[Part], options: &Options, total: &mut Tally) {
-    for part in
-        parts.iter().filter(|part| options.parts.is_empty() || options.parts.iter().any(|name| name == part.name))
-    {
+    for part in parts.iter().filter(|part| options.wants(part.name)) {
+        println!("{}, {} against {}:", subject.name(), part.name, part.against);
         let start = Instant::now();
         let rounds = part.rounds * options.rounds;
         let mut run = Run { subject, rng: Rng::new(options.seed), rounds, tally: Tally::default() };
         (part.run)(&mut run);
         let seconds = start.elapsed().as_secs_f64();
         let Tally { passed, failed } = run.tally;
-        let (name, against, subject) = (part.name, part.against, subject.name());
-        println!("{subject}, {name} against {against}: {passed} passed, {failed} failed (seed {}, rounds {rounds}, {seconds:.1} s)", options.seed);
+        let seed = options.seed;
+        println!("  {passed} passed, {failed} failed (seed {seed}, rounds {rounds}, {seconds:.1} s)");
         total.add(&run.tally);
     }
 }
@@ -98,7 +103,11 @@ fn options() -> Options {
         match word.as_str() {
             "--rounds" => options.rounds = number() as usize,
             "--seed" => options.seed = number(),
-            _ => options.parts.push(word),
+            name => {
+                let known = PARTS.iter().chain(&READING_PARTS).any(|part| part.name == name);
+                assert!(known, "no part {name}");
+                options.parts.push(word);
+            }
         }
     }
     options

@@ -73,7 +73,8 @@ impl Subject for Proved {
         let Branch { original, key, child } = branch;
         let has_original = u64::from(original.is_some());
         let original = original.unwrap_or_default();
-        call!(tyvarmos_insert_branch: in block; of p; of has_original; in original; in key; of child; out out; out answer;)
+        call!(tyvarmos_insert_branch: in block; of p; of has_original; in original; in key; of child; out out;
+            out answer;)
     }
 
     fn split(&self, block: &[u8], p: u64, cuts: &mut [u64], answer: &mut [u8]) -> u64 {

@@ -39,7 +39,7 @@ pub fn block_bytes<'a>(image: &'a [u8], p: u64, n: u64, page: u64, kinds: &[u8])
 /// A single lent block: its length, its type and overflow, then rules 5 to 7.
 pub fn lent_block(bytes: &[u8], p: u64) -> Result<Block<'_>, Fault> {
     check_page_size(p)?;
-    if bytes.is_empty() || bytes.len() as u64 % p != 0 {
+    if bytes.is_empty() || !(bytes.len() as u64).is_multiple_of(p) {
         return Err(refusal(1));
     }
     let header = header(bytes);

@@ -57,7 +57,7 @@ pub fn element_size(leaf: bool) -> usize {
 
 /// Refuses a page size that isn't allowed.
 pub fn check_page_size(p: u64) -> Result<(), Fault> {
-    let allowed = (1_024..=65_536).contains(&p) && p % 8 == 0;
+    let allowed = (1_024..=65_536).contains(&p) && p.is_multiple_of(8);
     allowed.then_some(()).ok_or(refusal(1))
 }
 

@@ -64,7 +64,9 @@ fn splits(run: &mut Run) {
 }
 
 fn allocations(run: &mut Run) {
-    let cases: [(u64, &[u64], u64, (u64, [u64; 2])); 5] = [
+    /// N, free pages, pages asked for, number and fields.
+    type Case<'a> = (u64, &'a [u64], u64, (u64, [u64; 2]));
+    let cases: [Case; 5] = [
         (20, &[2, 3, 7, 8, 9, 11], 3, (0, [7, 20])),
         (20, &[2, 3, 7, 8, 9, 11], 4, (0, [20, 24])),
         (20, &[4, 5, 6], 2, (0, [4, 20])),

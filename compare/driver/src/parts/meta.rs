@@ -4,7 +4,6 @@ use oracle::probe::meta_page::{self, Fields};
 use subject::{ask, MetaFields};
 
 use super::Run;
-use crate::make::fields::{get, put};
 use crate::rng::Rng;
 
 /// 01's offsets of the ten fields in the meta, and its size.
@@ -108,12 +107,7 @@ fn read(run: &mut Run, page: &[u8]) {
 }
 
 /// The fields as the answer buffer gives them.
-fn numbers(f: &Fields, hash: u64) -> [u64; 10] {
-    let mut bytes = vec![0; 80];
-    let short = [f.meta_page, f.magic, f.version].map(u64::from);
-    let long = [f.pagesize, f.root_page, f.next_int, f.num_pages, f.freelist_page, f.tx_id, hash];
-    for (i, number) in short.into_iter().chain(long).enumerate() {
-        put(&mut bytes, 8 * i, number);
-    }
-    std::array::from_fn(|i| get(&bytes, 8 * i))
+pub fn numbers(f: &Fields, hash: u64) -> [u64; 10] {
+    let [meta_page, magic, version] = [f.meta_page, f.magic, f.version].map(u64::from);
+    [meta_page, magic, version, f.pagesize, f.root_page, f.next_int, f.num_pages, f.freelist_page, f.tx_id, hash]
 }

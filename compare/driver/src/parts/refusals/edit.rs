@@ -68,7 +68,9 @@ fn deletes(run: &mut Run) {
 fn branches(run: &mut Run) {
     let subject = run.subject;
     let large = "e".repeat(1 << 20);
-    let cases: [(bool, Option<&str>, &str, u64, usize, u64); 19] = [
+    /// Leaf, original, key, child, room, number.
+    type Case<'a> = (bool, Option<&'a str>, &'a str, u64, usize, u64);
+    let cases: [Case; 19] = [
         (false, None, "c", 9, 1_024, 0),
         (false, None, "", 2, 1_024, 0),
         (false, None, "c", MAX, 1_024, 0),
@@ -124,7 +126,9 @@ fn split_lists(run: &mut Run) {
         write_content(&Content { leaf: true, items: values.iter().enumerate().map(item).collect() }, P, 3, 0)
     };
     let (four, whole) = (leaf(&[96; 12]), leaf(&[6, 6, 6, 6, 896]));
-    let cases: [(&[u8], u64, &[u64], usize, u64); 17] = [
+    /// Block, N, page numbers, room, number.
+    type Case<'a> = (&'a [u8], u64, &'a [u64], usize, u64);
+    let cases: [Case; 17] = [
         (&four, 20, &[2, 3, 4, 5], 4_096, 0),
         (&four, 20, &[19, 2, 9, 4], 4_096, 0),
         (&four, 6, &[5, 4, 3, 2], 4_096, 0),

@@ -31,7 +31,8 @@ fn numbers(run: &mut Run, table: &[u64], n: u64, what: &str) -> Vec<u64> {
     let subject = run.subject;
     let mut lent = table.to_vec();
     let mut numbers = Vec::new();
-    let calls: [&dyn Fn(&mut [u64]) -> u64; 6] = [
+    type Call<'a> = &'a dyn Fn(&mut [u64]) -> u64;
+    let calls: [Call; 6] = [
         &|table| ask::<0>(|answer| subject.free_init(table, n, &[2], answer)).number,
         &|table| ask::<0>(|answer| subject.free_pages(table, n, 2, 1, 0, answer)).number,
         &|table| ask::<0>(|answer| subject.release(table, n, 9, answer)).number,
