@@ -16,14 +16,14 @@ impl Tally {
         }
         self.failed += 1;
         if self.failed <= SHOWN {
-            println!("  FAILED: {}", what());
+            println!("  FAILED: {}", cut(what(), 800));
         }
     }
 
     /// Checks that two answers are the same.
     pub fn same<T: PartialEq + std::fmt::Debug>(&mut self, got: T, expected: T, what: impl FnOnce() -> String) {
         let holds = got == expected;
-        self.check(holds, || format!("{}: got {}, expected {}", what(), brief(&got), brief(&expected)));
+        self.check(holds, || format!("got {}, expected {}: {}", brief(&got), brief(&expected), what()));
     }
 
     pub fn add(&mut self, other: &Tally) {
@@ -34,9 +34,13 @@ impl Tally {
 
 /// The value in words, cut short.
 fn brief<T: std::fmt::Debug>(value: &T) -> String {
-    let mut text = format!("{value:?}");
-    if text.len() > 200 {
-        text.truncate(text.floor_char_boundary(200));
+    cut(format!("{value:?}"), 200)
+}
+
+/// The beginning of a text.
+fn cut(mut text: String, length: usize) -> String {
+    if text.len() > length {
+        text.truncate(text.floor_char_boundary(length));
         text += "..";
     }
     text

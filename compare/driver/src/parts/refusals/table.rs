@@ -11,7 +11,8 @@ const MAX: u64 = u64::MAX;
 
 pub fn run(run: &mut Run) {
     tables(run);
-    arguments(run);
+    initial_lists(run);
+    frees(run);
     allocations(run);
     listing(run);
     metas(run);
@@ -74,7 +75,7 @@ fn tables(run: &mut Run) {
     run.tally.same((got.number, table), (1, vec![MAX; TABLE_WORDS - 1]), || "free_new of a short table".into());
 }
 
-fn arguments(run: &mut Run) {
+fn initial_lists(run: &mut Run) {
     let subject = run.subject;
     let lists: [(&[u64], u64); 11] = [
         (&[], 0),
@@ -95,7 +96,11 @@ fn arguments(run: &mut Run) {
         run.tally
             .same((got.number, number == 0 || lent == table()), (number, true), || format!("initial list {ids:?}"));
     }
-    let frees = [
+}
+
+fn frees(run: &mut Run) {
+    let subject = run.subject;
+    let cases = [
         (2, 1, 0),
         (2, 2, 0),
         (7, 63, 0),
@@ -112,7 +117,7 @@ fn arguments(run: &mut Run) {
         (MAX, MAX, 11),
         (7, 64, 11),
     ];
-    for (first, count, number) in frees {
+    for (first, count, number) in cases {
         let mut lent = table();
         let got = ask::<0>(|answer| subject.free_pages(&mut lent, N, first, count, MAX, answer));
         run.tally
