@@ -6,7 +6,7 @@ use super::content;
 use super::fields::{put_element, put_header};
 use crate::rng::Rng;
 
-/// A block of so many pages, enough for the content, with the data in any order and gaps between.
+/// A block of so many pages, enough for the content, with the data in any order, gaps between, and at times up to the end.
 pub fn spread(rng: &mut Rng, content: &Content, p: u64, id: u64, pages: u64) -> Vec<u8> {
     let mut block = rng.bytes((p * pages) as usize);
     let kind = if content.leaf { 2 } else { 1 };
@@ -16,8 +16,9 @@ pub fn spread(rng: &mut Rng, content: &Content, p: u64, id: u64, pages: u64) -> 
     let end = content::size(content) as usize - 8;
     let mut spare = block.len() - end;
     let mut start = 32 + content.items.len() * if content.leaf { 32 } else { 24 };
+    let (last, flush) = (order.last().copied(), rng.one_in(2));
     for i in order {
-        let gap = rng.below(1 + spare.min(20));
+        let gap = if flush && Some(i) == last { spare } else { rng.below(1 + spare.min(20)) };
         spare -= gap;
         start += gap;
         let item = &content.items[i];
@@ -56,6 +57,7 @@ fn window(rng: &mut Rng, leaf: bool, block: &[u8], table: usize) -> (Item, usize
     let value_length = match (leaf, bucket) {
         (false, _) => 0,
         (true, true) => 16,
+        (true, false) if rng.one_in(3) => block.len() - middle,
         (true, false) => rng.below(block.len() - middle + 1),
     };
     let tag = if leaf { u64::from(bucket) } else { rng.between(2, 40_000) };
