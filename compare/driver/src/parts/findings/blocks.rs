@@ -1,0 +1,93 @@
+//! Differences in blocks, nodes and the descent.
+
+use oracle::probe::search::{self, Image};
+use oracle::probe::{edit, write_content, Content, Item};
+use subject::{ask, Branch};
+
+use super::Run;
+use crate::make::fields::{get, put, put_header};
+
+const P: u64 = 1_024;
+
+pub fn run(run: &mut Run) {
+    unset_bytes(run);
+    replacement_out_of_order(run);
+    branch_to_meta(run);
+    large_node(run);
+    short_bucket_value(run);
+    missing_child(run);
+    empty_below_root(run);
+}
+
+fn branch(pages: &[(&str, u64)]) -> Content {
+    let items = pages.iter().map(|(key, page)| Item { tag: *page, key: key.as_bytes().to_vec(), value: Vec::new() });
+    Content { leaf: false, items: items.collect() }
+}
+
+/// 1. Padding and what follows the content keep what the buffer held.
+fn unset_bytes(run: &mut Run) {
+    let leaf = Content { leaf: true, items: vec![Item { tag: 0, key: vec![5], value: vec![6] }] };
+    let block = write_content(&leaf, P, 2, 0xAA);
+    let unset = [&block[9..16], &block[33..40], &block[66..]].concat();
+    run.tally.check(unset.iter().all(|byte| *byte == 0xAA), || "finding 1".into());
+}
+
+/// 2. A replacement that breaks the order is stored; 01 says 14.
+fn replacement_out_of_order(run: &mut Run) {
+    let block = write_content(&branch(&[("b", 7), ("d", 8)]), P, 2, 0);
+    let stored = edit::insert_branch(&block, P, Some(b"d"), b"a", 9, 0);
+    run.tally
+        .same(stored, Some(write_content(&branch(&[("b", 7), ("a", 9)]), P, 2, 0)), || "finding 2, the crate".into());
+    let change = Branch { original: Some(b"d"), key: b"a", child: 9 };
+    let got = ask::<3>(|answer| run.subject.insert_branch(&block, P, change, &mut [0; 1_024], answer));
+    run.tally.same(got.number, 14, || "finding 2".into());
+}
+
+/// 3. A branch entry to a meta page is stored in a release build; 01 says 11.
+fn branch_to_meta(run: &mut Run) {
+    let block = write_content(&branch(&[("b", 7)]), P, 2, 0);
+    let stored = edit::insert_branch(&block, P, None, b"c", 1, 0);
+    run.tally
+        .same(stored, Some(write_content(&branch(&[("b", 7), ("c", 1)]), P, 2, 0)), || "finding 3, the crate".into());
+    let change = Branch { original: None, key: b"c", child: 1 };
+    let got = ask::<3>(|answer| run.subject.insert_branch(&block, P, change, &mut [0; 1_024], answer));
+    run.tally.same(got.number, 11, || "finding 3".into());
+}
+
+/// 4. No node is too large; 01 says 15 above 1,048,576 bytes.
+fn large_node(run: &mut Run) {
+    let item = Item { tag: 0, key: Vec::new(), value: vec![0; 1_048_505] };
+    let block = write_content(&Content { leaf: true, items: vec![item] }, P, 2, 0);
+    run.tally.same((edit::size(&block, P), get(&block, 24)), (1_048_577, 1_024), || "finding 4, the crate".into());
+    let got = ask::<5>(|answer| run.subject.size(&block, P, answer));
+    run.tally.same(got.number, 15, || "finding 4".into());
+}
+
+/// 5. A bucket's value is read as 16 bytes whatever its size says; 01 says 5.
+fn short_bucket_value(run: &mut Run) {
+    let item = Item { tag: 1, key: vec![5], value: (0..16).collect() };
+    let mut block = write_content(&Content { leaf: true, items: vec![item.clone()] }, P, 2, 0);
+    put(&mut block, 56, 15);
+    run.tally.same(search::val(&block, P, 0), [Some(item.clone()), Some(item)], || "finding 5, the crate".into());
+    let got = ask::<4>(|answer| run.subject.index(&block, P, &[5], answer));
+    run.tally.same((got.number, got.fields[3]), (5, 0), || "finding 5".into());
+}
+
+/// 6. A child of page 0 makes every key below it absent; 01's lookup says 2.
+fn missing_child(run: &mut Run) {
+    let image = [vec![0; 2_048], write_content(&branch(&[("b", 0)]), P, 2, 0)].concat();
+    run.tally.same(Image::new(&image, P).get(2, b"b"), None, || "finding 6, the crate".into());
+    let got = ask::<6>(|answer| run.subject.lookup(&image, P, 3, 2, b"b", answer));
+    run.tally.same((got.number, got.fields), (2, [0; 6]), || "finding 6".into());
+}
+
+/// 7. An empty page below the root, or an empty branch, holds no key; 01's lookup says 4.
+fn empty_below_root(run: &mut Run) {
+    let mut image = [vec![0; 2_048], write_content(&branch(&[("b", 3)]), P, 2, 0), vec![0; 1_024]].concat();
+    for (root, page, kind) in [(2, 3, 2), (2, 3, 1), (3, 3, 1)] {
+        put_header(&mut image[3_072..], 3, kind, 0, 0);
+        run.tally.same(Image::new(&image, P).get(root, b"b"), None, || "finding 7, the crate".into());
+        let got = ask::<6>(|answer| run.subject.lookup(&image, P, 4, root, b"b", answer));
+        run.tally.same((got.number, got.fields), (4, [0, 0, 0, 0, page, 0]), || "finding 7".into());
+    }
+}

@@ -1,0 +1,13 @@
+//! Every difference of FINDINGS.md with its smallest input: what the crate does, and what 01 says.
+
+mod blocks;
+mod files;
+mod lists;
+
+use super::Run;
+
+pub fn run(run: &mut Run) {
+    blocks::run(run);
+    lists::run(run);
+    files::run(run);
+}

@@ -1,0 +1,241 @@
+//! Images: a sound one, and what judge and lookup say when it is changed.
+
+use oracle::probe::{write_content, Content, Item};
+use subject::ask;
+
+use super::Run;
+use crate::make::fields::{freelist_block, put, put_header};
+
+const P: u64 = 1_024;
+const N: u64 = 10;
+const MAX: u64 = u64::MAX;
+
+/// Where the fields of the sound image lie: pages 2 (root), 3 and 4 (leaves), 5 (freelist).
+const ROOT: usize = 2 * 1_024;
+const LEFT: usize = 3 * 1_024;
+const RIGHT: usize = 4 * 1_024;
+const FREE: usize = 5 * 1_024;
+
+/// A change: so many numbers put at these places.
+type Change<'a> = &'a [(usize, u64)];
+/// Number, page and element.
+type Fault = (u64, u64, u64);
+
+/// Root 2 with b to leaf 3 (b, c) and m to leaf 4 (m, and z a bucket); freelist 5 with 6, 7 and 9.
+fn sound() -> Vec<u8> {
+    let item = |tag, key: &str, value: &[u8]| Item { tag, key: key.into(), value: value.into() };
+    let branch = Content { leaf: false, items: vec![item(3, "b", b""), item(4, "m", b"")] };
+    let left = Content { leaf: true, items: vec![item(0, "b", b"1"), item(0, "c", b"22")] };
+    let right = Content { leaf: true, items: vec![item(0, "m", b"3"), item(1, "z", &[9; 16])] };
+    let mut image = vec![0; (N * P) as usize];
+    image[ROOT..LEFT].copy_from_slice(&write_content(&branch, P, 2, 0));
+    image[LEFT..RIGHT].copy_from_slice(&write_content(&left, P, 3, 0));
+    image[RIGHT..FREE].copy_from_slice(&write_content(&right, P, 4, 0));
+    image[FREE..FREE + 1_024].copy_from_slice(&freelist_block(P, 5, 1, &[6, 7, 9]));
+    image
+}
+
+pub fn run(run: &mut Run) {
+    geometry(run);
+    roots(run);
+    pages(run);
+    ranges(run);
+    freelist(run);
+    levels(run);
+    absent(run);
+}
+
+fn judged(run: &mut Run, image: &[u8], (p, n): (u64, u64), root: u64, freelist: u64, fault: Fault) {
+    let got = ask::<4>(|answer| run.subject.judge(image, p, n, root, freelist, answer));
+    let expected = (fault.0, [0, 0, fault.1, fault.2]);
+    run.tally.same((got.number, got.fields), expected, || format!("judge P {p} N {n} root {root} freelist {freelist}"));
+}
+
+fn looked(run: &mut Run, image: &[u8], (p, n): (u64, u64), root: u64, key: &str, fault: Fault) {
+    let got = ask::<6>(|answer| run.subject.lookup(image, p, n, root, key.as_bytes(), answer));
+    let expected = (fault.0, [0, 0, 0, 0, fault.1, fault.2]);
+    run.tally.same((got.number, got.fields), expected, || format!("lookup {key} P {p} N {n} root {root}"));
+}
+
+fn geometry(run: &mut Run) {
+    let image = sound();
+    for size in [
+        (0, N),
+        (1_016, N),
+        (1_020, N),
+        (1_028, N),
+        (65_544, 2),
+        (MAX, N),
+        (P, 0),
+        (P, 1),
+        (P, 11),
+        (P, 32_769),
+        (P, MAX),
+    ] {
+        judged(run, &image, size, 0, 0, (1, 0, 0));
+        looked(run, &image, size, 0, "b", (1, 0, 0));
+    }
+    judged(run, &image[1..], (P, N), 2, 5, (1, 0, 0));
+    let longer = [image, vec![7; 3]].concat();
+    let got = ask::<4>(|answer| run.subject.judge(&longer, P, N, 2, 5, answer));
+    run.tally.same((got.number, got.fields), (0, [4, 4, 0, 0]), || "the sound image".into());
+}
+
+fn roots(run: &mut Run) {
+    let image = sound();
+    for root in [0, 1, 10, 32_768, MAX] {
+        judged(run, &image, (P, N), root, 5, (2, root, 0));
+        looked(run, &image, (P, N), root, "b", (2, root, 0));
+        judged(run, &image, (P, N), 2, root, (2, root, 0));
+    }
+    for root in [5, 6] {
+        judged(run, &image, (P, N), root, 5, (3, root, 0));
+        looked(run, &image, (P, N), root, "b", (3, root, 0));
+    }
+    judged(run, &image, (P, N), 2, 3, (8, 3, 0));
+    judged(run, &image, (P, N), 2, 6, (3, 6, 0));
+}
+
+/// Breaches of rules 2, 4, 5, 6 and 7 in leaf 3, which both judge and lookup of c meet.
+fn pages(run: &mut Run) {
+    let (pos, key_size, value_size) = (LEFT + 40, LEFT + 48, LEFT + 56);
+    let cases: [(Change, Fault); 27] = [
+        (&[(ROOT + 32, 1)], (2, 1, 0)),
+        (&[(ROOT + 32, MAX)], (2, MAX, 0)),
+        (&[(LEFT, 4)], (3, 3, 0)),
+        (&[(LEFT + 8, 3)], (3, 3, 0)),
+        (&[(LEFT + 8, 4)], (3, 3, 0)),
+        (&[(LEFT + 24, 7)], (3, 3, 0)),
+        (&[(LEFT + 24, MAX)], (3, 3, 0)),
+        (&[(LEFT + 24, MAX - 2)], (3, 3, 0)),
+        (&[(LEFT + 16, 0)], (4, 3, 0)),
+        (&[(ROOT + 16, 0)], (4, 2, 0)),
+        (&[(LEFT + 16, 32)], (4, 3, 0)),
+        (&[(LEFT + 16, 1 << 59)], (4, 3, 0)),
+        (&[(LEFT + 16, MAX)], (4, 3, 0)),
+        (&[(LEFT + 16, 31)], (5, 3, 0)),
+        (&[(pos, 63)], (5, 3, 0)),
+        (&[(pos, 0)], (5, 3, 0)),
+        (&[(pos, 1_024 - 32 - 1)], (5, 3, 0)),
+        (&[(pos, MAX)], (5, 3, 0)),
+        (&[(pos, 70), (key_size, MAX - 60)], (5, 3, 0)),
+        (&[(value_size, MAX - 90)], (5, 3, 0)),
+        (&[(value_size, 928)], (5, 3, 0)),
+        (&[(LEFT + 64, 2)], (5, 3, 1)),
+        (&[(LEFT + 64, 1)], (5, 3, 1)),
+        (&[(LEFT + 96, 0x61_31_62)], (6, 3, 1)),
+        (&[(LEFT + 96, 0x62_31_62)], (6, 3, 1)),
+        (&[(LEFT + 96, 0x62_31_62), (LEFT + 64, 2)], (5, 3, 1)),
+        (&[(LEFT + 64, 2), (LEFT + 8, 9)], (3, 3, 0)),
+    ];
+    for (change, fault) in cases {
+        let image = changed(change);
+        judged(run, &image, (P, N), 2, 5, fault);
+        looked(run, &image, (P, N), 2, "c", fault);
+    }
+    let whole = changed(&[(LEFT + 24, 6), (value_size, 927)]);
+    let got = ask::<4>(|answer| run.subject.judge(&whole, P, N, 2, 5, answer));
+    run.tally.same((got.number, got.fields), (0, [4, 4, 0, 0]), || "a block up to the last page".into());
+}
+
+fn changed(change: Change) -> Vec<u8> {
+    let mut image = sound();
+    change.iter().for_each(|(at, number)| put(&mut image, *at, *number));
+    image
+}
+
+/// Breaches that only the judge looks for: lookup of c still finds it.
+fn ranges(run: &mut Run) {
+    let cases: [(Change, Fault); 5] = [
+        (&[(LEFT + 96, 0x32_32_63_31_61)], (7, 3, 0)),
+        (&[(LEFT + 96, 0x63_31_62), (ROOT + 80, 0x63_62)], (7, 3, 1)),
+        (&[(RIGHT + 96, 0x7A_33_6C)], (7, 4, 0)),
+        (&[(ROOT + 56, 3)], (8, 3, 0)),
+        (&[(ROOT + 56, 2)], (8, 2, 0)),
+    ];
+    for (change, fault) in cases {
+        let image = changed(change);
+        judged(run, &image, (P, N), 2, 5, fault);
+    }
+    let image = changed(&[(LEFT + 96, 0x32_32_63_31_61), (ROOT + 56, 2)]);
+    let got = ask::<6>(|answer| run.subject.lookup(&image, P, N, 2, b"c", answer));
+    run.tally.same((got.number, got.fields), (0, [1, 0, LEFT as u64 + 99, 2, 0, 0]), || "lookup of c".into());
+    nested_range(run);
+}
+
+/// The upper end of a branch that holds for its last child: root 2, branch 3 (a to 6), branch 4; leaf 6 holds m.
+fn nested_range(run: &mut Run) {
+    let item = |tag, key: &str| Item { tag, key: key.into(), value: Vec::new() };
+    let mut image = sound();
+    let branch = Content { leaf: false, items: vec![item(6, "b")] };
+    let leaf = Content { leaf: true, items: vec![item(0, "c"), item(0, "m")] };
+    image[LEFT..RIGHT].copy_from_slice(&write_content(&branch, P, 3, 0));
+    image[6 * 1_024..7 * 1_024].copy_from_slice(&write_content(&leaf, P, 6, 0));
+    judged(run, &image, (P, N), 2, 5, (7, 6, 1));
+}
+
+fn freelist(run: &mut Run) {
+    let cases: [(Change, Fault); 15] = [
+        (&[(FREE, 6)], (3, 5, 0)),
+        (&[(FREE + 8, 2)], (3, 5, 0)),
+        (&[(FREE + 24, 5)], (3, 5, 0)),
+        (&[(FREE + 16, 125)], (4, 5, 0)),
+        (&[(FREE + 16, 1 << 61)], (4, 5, 0)),
+        (&[(FREE + 16, 124)], (5, 5, 3)),
+        (&[(FREE + 32, 1)], (5, 5, 0)),
+        (&[(FREE + 48, 10)], (5, 5, 2)),
+        (&[(FREE + 40, 6)], (6, 5, 1)),
+        (&[(FREE + 48, 6)], (6, 5, 2)),
+        (&[(FREE + 32, 7), (FREE + 48, MAX)], (5, 5, 2)),
+        (&[(FREE + 32, 2)], (8, 5, 0)),
+        (&[(FREE + 32, 5)], (8, 5, 0)),
+        (&[(FREE + 32, 3), (FREE + 40, 4)], (8, 5, 0)),
+        (&[(FREE + 32, 3), (FREE + 48, 7)], (6, 5, 2)),
+    ];
+    for (change, fault) in cases {
+        judged(run, &changed(change), (P, N), 2, 5, fault);
+    }
+    let got = ask::<4>(|answer| run.subject.judge(&changed(&[(FREE + 16, 0)]), P, N, 2, 5, answer));
+    run.tally.same((got.number, got.fields), (0, [4, 4, 0, 0]), || "an empty freelist".into());
+}
+
+/// A path of branches from page 2 on: 15 of them over a leaf pass, the seventeenth level does not.
+fn levels(run: &mut Run) {
+    for branches in [15, 16, 17] {
+        let n = branches + 5;
+        let mut image = vec![0; (n * P) as usize];
+        for page in 2..2 + branches {
+            let items = vec![Item { tag: page + 1, key: vec![5], value: Vec::new() }];
+            put_block(&mut image, page, &write_content(&Content { leaf: false, items }, P, page, 0));
+        }
+        let items = vec![Item { tag: 0, key: vec![5], value: vec![6] }];
+        put_block(&mut image, 2 + branches, &write_content(&Content { leaf: true, items }, P, 2 + branches, 0));
+        put_block(&mut image, n - 1, &freelist_block(P, n - 1, 1, &[]));
+        if branches > 15 {
+            judged(run, &image, (P, n), 2, n - 1, (9, 18, 0));
+            looked(run, &image, (P, n), 2, "\u{5}", (9, 18, 0));
+            continue;
+        }
+        let got = ask::<4>(|answer| run.subject.judge(&image, P, n, 2, n - 1, answer));
+        run.tally.same((got.number, got.fields), (0, [1, 17, 0, 0]), || "sixteen levels".into());
+        let got = ask::<6>(|answer| run.subject.lookup(&image, P, n, 2, &[5], answer));
+        run.tally.same((got.number, got.fields), (0, [1, 0, 17 * P + 65, 1, 0, 0]), || "lookup at level 16".into());
+    }
+}
+
+fn put_block(image: &mut [u8], page: u64, block: &[u8]) {
+    let at = (page * P) as usize;
+    image[at..at + block.len()].copy_from_slice(block);
+}
+
+/// Keys that are not there, one below every separator among them, and a root that is an empty leaf.
+fn absent(run: &mut Run) {
+    let mut image = sound();
+    for key in ["", "a", "bb", "d", "n", "zz"] {
+        looked(run, &image, (P, N), 2, key, (0, 0, 0));
+    }
+    put_header(&mut image[6 * 1_024..], 6, 2, 0, 0);
+    looked(run, &image, (P, N), 6, "a", (0, 0, 0));
+    let got = ask::<4>(|answer| run.subject.judge(&image, P, N, 6, 9, answer));
+    run.tally.same(got.number, 3, || "freelist on a page of zeros".into());
+}

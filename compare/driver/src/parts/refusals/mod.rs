@@ -1,0 +1,15 @@
+//! Breaches put down by hand, each with the number, page and element that 01 gives it.
+
+mod block;
+mod edit;
+mod image;
+mod table;
+
+use super::Run;
+
+pub fn run(run: &mut Run) {
+    image::run(run);
+    block::run(run);
+    edit::run(run);
+    table::run(run);
+}

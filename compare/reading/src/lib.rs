@@ -1,0 +1,28 @@
+//! Document 01 read plainly, from its text alone: straight code over byte slices, with sums that cannot wrap.
+//!
+//! Nothing here is fast or clever. It is what the crate and the proved code are held against.
+
+pub mod block;
+pub mod edit;
+pub mod freelist;
+pub mod judge;
+pub mod layout;
+pub mod lookup;
+pub mod meta;
+pub mod pack;
+pub mod search;
+pub mod split;
+pub mod words;
+
+/// A refusal: 01's number, and the page and element it names, 0 where none.
+#[derive(Clone, Copy, Debug, PartialEq, Eq)]
+pub struct Fault {
+    pub number: u64,
+    pub page: u64,
+    pub element: u64,
+}
+
+/// The refusal with this number that names nothing.
+pub fn refusal(number: u64) -> Fault {
+    Fault { number, page: 0, element: 0 }
+}
