@@ -1,0 +1,2 @@
+-- The starred checks hold.
+pub mod AllHold

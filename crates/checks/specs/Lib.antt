@@ -1,0 +1,2 @@
+-- 01's starred checks.
+pub mod Checks

@@ -1,0 +1,2 @@
+-- The laws of node sizes, for every layer above.
+pub mod SizeLaws

@@ -1,0 +1,2 @@
+-- What the contracts of `size` cite.
+pub mod Size

@@ -1,0 +1,6 @@
+-- The laws of the split, for every layer above.
+pub mod Halved
+pub mod RunLaws
+pub mod PartedLaws
+pub mod PieceLaws
+pub mod Examples

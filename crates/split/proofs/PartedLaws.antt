@@ -1,0 +1,49 @@
+-- Laws of what `split` answers and leaves: which case holds when, and what the cuts put into the lent list are.
+-- Assumes nothing.
+use mathlib.Core.Path.{_≡_, refl, sym, ap, _∙_}
+use mathlib.Core.Bool.{Bool, true}
+use mathlib.Core.List.{List, _++_}
+use Prim.Native.Nat.{ℕ, _≤_, _<_}
+use native.Mathlib.Omega.{arith}
+use lib.ListN.{length, drop}
+use borrow.Author.Tests.{lt-ltb, le-ltb, not-false}
+use Rattle.field.specs.Sizes.{sizeAllowed}
+use Rattle.field.specs.Run.{putAt}
+use Rattle.field.proofs.RunLaws.{put-start}
+use Rattle.page.specs.declared.rules.Verdict.the-variants.{Sound, Breach}
+use Rattle.page.specs.Layout.{entriesOf}
+use Rattle.page.specs.PageRules.{lentCheckOf}
+use Rattle.page.proofs.TestLaws.{and-both}
+use Rattle.page.proofs.LentLaws.{lent-iff}
+use Rattle.size.specs.Size.{nodeLimit}
+use Rattle.split.specs.declared.cuts.Parted.{Parted}
+use Rattle.split.specs.declared.cuts.Parted.the-variants.{Cuts, Refused}
+use Rattle.split.specs.Split.{threshold, cutsOf}
+use Rattle.split.specs.Run.{cutsAfter, runEnd}
+use Rattle.split.specs.Parted.{partedIf, listLeft}
+use Rattle.split.proofs.RunLaws.{cuts-run}
+
+-- the page size of a block that passes is allowed
+pub lent-size : (P : ℕ) (b : List ℕ) → lentCheckOf P b ≡ Sound → sizeAllowed P ≡ true
+lent-size P b e = and-both _ _ (not-false _ (lent-iff P b .0 e .0)) .0
+
+-- which of the three answers
+module _ (size : ℕ) (made : List ℕ) (room : ℕ) where
+  pub parted-large : nodeLimit < size → Refused 15 0 ≡ partedIf size made room
+  parted-large h = rw (lt-ltb nodeLimit size h)
+
+  pub parted-short : size ≤ nodeLimit → room < length made → Refused 10 0 ≡ partedIf size made room
+  parted-short h k = rw (le-ltb nodeLimit size h, lt-ltb room (length made) k)
+
+  pub parted-made : size ≤ nodeLimit → length made ≤ room → Cuts (length made) ≡ partedIf size made room
+  parted-made h k = rw (le-ltb nodeLimit size h, le-ltb room (length made) k)
+
+-- the code's threshold and end give the node's cuts
+pub cuts-code : (leaf : Bool) (P : ℕ) (b : List ℕ) (t end : ℕ) → t ≡ threshold P → end ≡ runEnd leaf P b
+    → cutsAfter leaf t b end 0 ≡ cutsOf leaf P (entriesOf leaf b)
+cuts-code leaf P b t end ht he = rw (ht, he) (sym (cuts-run leaf P b))
+
+-- the cuts put from the start, and how many they are
+pub put-made : {run list : List ℕ} (n : ℕ) (made old : List ℕ) → run ≡ made → n ≡ length run → list ≡ putAt old 0 run
+    → list ≡ listLeft (Cuts n) made old
+put-made n made old e hn p = p ∙ ap (putAt old 0) e ∙ put-start old made ∙ ap (λ (k : ℕ). made ++ drop k old) (sym (hn ∙ ap length e))

@@ -1,0 +1,4 @@
+-- What the contracts and theorems of `split` cite.
+pub mod Split
+pub mod Run
+pub mod Parted

@@ -1,0 +1,4 @@
+// The split of a node: where it is cut, and its pieces as packed blocks.
+pub mod cuts;
+
+pub use cuts::Parted;
