@@ -35,7 +35,7 @@ const PARTS: [Part; 12] = [
     Part { name: "meta", against: "the crate", run: parts::meta::run, rounds: 3_000 },
     Part { name: "tree", against: "the crate", run: parts::tree::run, rounds: 300 },
     Part { name: "hostile", against: "the reading", run: parts::hostile::run, rounds: 300 },
-    Part { name: "findings", against: "FINDINGS.md", run: parts::findings::run, rounds: 1 },
+    Part { name: "findings", against: "docs/DIFFERENCES.md", run: parts::findings::run, rounds: 1 },
     Part { name: "files", against: "the crate", run: parts::files::run, rounds: 1 },
 ];
 

@@ -1,4 +1,4 @@
-//! Every difference of FINDINGS.md with its smallest input: what the crate does, and what 01 says.
+//! Every difference of docs/DIFFERENCES.md with its smallest input: what the crate does, and what 01 says.
 
 mod blocks;
 mod files;
