@@ -61,6 +61,16 @@ fn broken(marks: [u64; 512], number: u64, page: usize, element: usize) -> Walked
     }
 }
 
+// A walk that ended with so many leaf entries.
+fn passed(marks: [u64; 512], entries: usize) -> Walked
+    ensures { λ r. ⌜ (r .outcome ≡ Outcome.Passed entries) × (r .marks ≡ marks) ⌝ }
+{
+    Walked {
+        marks,
+        outcome: Outcome::Passed(entries),
+    }
+}
+
 // The upper end of child `i`'s range: the next separator, or the branch's own for the last of `c` children.
 fn upper<'a>(b: &'a [u8], i: usize, c: usize, high: &'a [u8]) -> &'a [u8]
     requires { ⌜ (c ≡ countOf (now b)) × SoundBlock false false (now b) × (i < c) ⌝ }
@@ -114,10 +124,7 @@ fn walk<'a>(
     let mut seen = with_mark(marks, q as u64);
     match judge_page(image, p, n, q, top, low, high, bounded) {
         Page::Breach(number, i) => broken(seen, number, q, i),
-        Page::Leaf(entries) => Walked {
-            marks: seen,
-            outcome: Outcome::Passed(entries),
-        },
+        Page::Leaf(entries) => passed(seen, entries),
         Page::Branch(c) => {
             let b = block(image, p, n, q);
             let mut entries = 0;
@@ -139,10 +146,7 @@ fn walk<'a>(
                 let outcome = w.outcome;
                 match outcome {
                     Outcome::Broken(f) => {
-                        return Walked {
-                            marks: next,
-                            outcome: Outcome::Broken(f),
-                        };
+                        return broken(next, f.number, f.page, f.element);
                     }
                     Outcome::Passed(m) => {
                         entries += m;
@@ -151,10 +155,7 @@ fn walk<'a>(
                     }
                 }
             }
-            Walked {
-                marks: seen,
-                outcome: Outcome::Passed(entries),
-            }
+            passed(seen, entries)
         }
     }
 }

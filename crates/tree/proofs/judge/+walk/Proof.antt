@@ -2,7 +2,7 @@
 -- walk of all children is the walk of those from `i` on, after the entries counted and with the pages marked by now; and each entry counted
 -- has its page, so that few enough are counted. Assumes nothing.
 use Prim.Native.Nat.{ℕ, _+_, _-_, _*_, _≤_, _<_}
-use mathlib.Core.Path.{_≡_, refl, sym, _∙_}
+use mathlib.Core.Path.{_≡_, refl, sym, ap, _∙_}
 use mathlib.Core.Bool.{Bool, true, false}
 use mathlib.Core.List.{List, _∷_}
 use borrow.Author.Needs.{needs}
@@ -19,7 +19,6 @@ use Rattle.page.specs.Layout.{countOf}
 use Rattle.page.specs.PageRules.{SoundBlock}
 use Rattle.page.proofs.LayoutLaws.{element-room}
 use Rattle.walk.specs.Tree.{Key, branch, inside, memb, next, walkAll, walk as walkOf, Verdict as Walk}
-use Rattle.tree.specs.declared.judge.Outcome.the-variants.{Passed, Broken}
 use Rattle.tree.specs.View.{row, childItem, viewOf}
 use Rattle.tree.specs.Walk.{upperOf, Marks, Says}
 use Rattle.tree.proofs.LookupLaws.{inside-parts}
@@ -36,6 +35,7 @@ use Rattle.tree.proofs.image.block.Reads as block-reads
 use Rattle.tree.proofs.image.inside.Reads as inside-reads
 use Rattle.tree.proofs.judge.broken.Reads as broken-reads
 use Rattle.tree.proofs.judge.has_upper.Reads as has-upper-reads
+use Rattle.tree.proofs.judge.passed.Reads as passed-reads
 use Rattle.tree.proofs.judge.upper.Reads as upper-reads
 use Rattle.tree.proofs.range.judge_page.Reads as judge-page-reads
 use Rattle.tree.proofs.judge.+walk.{statement}
@@ -63,6 +63,8 @@ claims t = (
   with-mark-reads.Learnt,
   judge-page-reads.Asked,
   judge-page-reads.Learnt,
+  passed-reads.Asked,
+  passed-reads.Learnt,
   block-reads.Asked,
   block-reads.Learnt,
   child-reads.Asked,
@@ -201,19 +203,20 @@ module _ (t : ℕ) where
 
   returns-6 : walk-lts.Need-returns-6 (claims t) (walk-at t) walk.Post walk-Inv-loop walk-μ-loop
   returns-6 c =
-      let w = c .before .before .before .before in
+      let o = c .before in
+      let w = o .before .before .before .before in
       let s = w .before .before .before .before .before .before .before .before .before in
       let a = s .args in
-      let told = sym (c .before .before .before .judge-page .ensures) ∙ c .before .entries .given .1 in (
+      let told = sym (o .before .before .before .judge-page .ensures) ∙ o .before .entries .given .1 in (
         λ vs m.
-            says-pass _ _ _ (a .q ∷ vs)
+            says-pass (c .passed .result) _ _ (a .q ∷ vs)
             (walk-leaf (a .n) (viewOf (now (a .image)) (a .p) (a .n)) (a .q) (a .top) (now (a .low)) (upperOf (a .bounded) (now (a .high))) vs (a .left)
             (spare (w .before .before .before .before .before)) (within (w .before .before .before)) (sym (marked (w .before .before) vs m) ∙ w .before .if3 .left) _ told)
-            refl (seen-marks w vs m),
+            (c .passed .ensures .0) (rw (c .passed .ensures .1) (seen-marks w vs m)),
         λ k e.
-            let x : c .before .entries .given .0 .0 ≡ k = cc in
+            let x : o .before .entries .given .0 .0 ≡ k = (let p = c .passed .ensures .0 in cc) in
             let few = few-entries (now (a .image)) (a .p) (a .n) (a .q) (a .top) (now (a .low)) (upperOf (a .bounded) (now (a .high))) _ (s .pre .1) told in
-            omega (arith, seen-count w),
+            omega (arith, seen-count w, ap count (c .passed .ensures .1)),
       )
 
   -- ---- a branch
@@ -313,18 +316,19 @@ module _ (t : ℕ) where
 
   returns-4 : walk-lts.Need-returns-4 (claims t) (walk-at t) walk.Post walk-Inv-loop walk-μ-loop
   returns-4 c =
-      let w = c .before .before .before .before in
+      let o = c .before in
+      let w = o .before .before .before .before in
       let l = w .before .before .before .before .before .before in
       let a = l .before .before .before .before .before .before .before .before .before .before .before .before .before .before .before .args in
       let b = now (l .before .block .result) in
-      let f = c .before .outcome .given .0 .0 in (
+      let f = o .before .outcome .given .0 .0 in (
         λ vs m.
             let r = reached l vs m in
-            let k = says-broken (w .walk .result) _ f (child-walk w (r .0) (r .1)) (c .before .outcome .given .1) in
-            says-fault (record { marks = w .walk .result .marks; outcome = Broken f }) _ (f .number) (f .page) (f .element)
+            let k = says-broken (w .walk .result) _ f (child-walk w (r .0) (r .1)) (o .before .outcome .given .1) in
+            says-fault (c .broken5 .result) _ (f .number) (f .page) (f .element)
             (r .2 ∙ turn-broken (childItem b) (l .before .before .before .c .given .0 .0) (l .loop .i) (walkOf (a .n) (viewOf (now (a .image)) (a .p) (a .n)) (a .left - 1) false) (upperOf (a .bounded) (now (a .high))) (l .loop .entries) (r .0) _ _ _ (w .before .before .before .before .before .loop-test .taken) k)
-            refl,
-        λ i e. absurd (let z : _≡_ {A = ℕ} 0 1 = cc in omega arith),
+            (c .broken5 .ensures .0),
+        λ i e. never-both (c .broken5 .result) _ i (c .broken5 .ensures .0) e,
       )
 
   -- each entry counted has its page, and the pages are few
@@ -368,16 +372,16 @@ module _ (t : ℕ) where
 
   returns-7 : walk-lts.Need-returns-7 (claims t) (walk-at t) walk.Post walk-Inv-loop walk-μ-loop
   returns-7 c =
-      let l = c .before in
+      let l = c .before .before in
       let a = l .before .before .before .before .before .before .before .before .before .before .before .before .before .before .before .args in
       let b = now (l .before .block .result) in
       let x = l .loop .inv .2 in (
         λ vs m.
             let r = reached l vs m in
-            says-pass (record { marks = l .loop .seen; outcome = Passed (l .loop .entries) }) _ (l .loop .entries) (r .0)
-            (r .2 ∙ turn-done (childItem b) (l .before .before .before .c .given .0 .0) (l .loop .i) (walkOf (a .n) (viewOf (now (a .image)) (a .p) (a .n)) (a .left - 1) false) (upperOf (a .bounded) (now (a .high))) (l .loop .entries) (r .0) (c .loop-test .left))
-            refl (r .1),
-        λ k e. let y : l .loop .entries ≡ k = cc in omega (arith, seen-count (l .before .before .before .before .before .before)),
+            says-pass (c .passed2 .result) _ (l .loop .entries) (r .0)
+            (r .2 ∙ turn-done (childItem b) (l .before .before .before .c .given .0 .0) (l .loop .i) (walkOf (a .n) (viewOf (now (a .image)) (a .p) (a .n)) (a .left - 1) false) (upperOf (a .bounded) (now (a .high))) (l .loop .entries) (r .0) (c .before .loop-test .left))
+            (c .passed2 .ensures .0) (rw (c .passed2 .ensures .1) (r .1)),
+        λ k e. let y : l .loop .entries ≡ k = (let p = c .passed2 .ensures .0 in cc) in omega (arith, ap count (c .passed2 .ensures .1), seen-count (l .before .before .before .before .before .before)),
       )
 
 pub +walk-spec : {M : Type 1} → statement M
@@ -386,7 +390,7 @@ pub +walk-spec : {M : Type 1} → statement M
     walk-lts.spec (claims t) (walk-at t) walk.Post walk-Inv-loop walk-μ-loop
     (λ c κs. search needs) (returns t) (λ c κs. search needs) (λ c κs. search needs) (returns-2 t) (is-marked-requires t)
     (λ c κs. search needs) (returns-3 t) (with-mark-requires t) (judge-page-requires t)
-    (λ c. search needs) (λ c κs. search needs) (λ c. search needs) (λ c. search needs) (block-requires t) (loop-holds t)
+    (λ c. search needs) (λ c κs. search needs) (λ c. search needs) (λ c κs. search needs) (λ c. search needs) (block-requires t) (loop-holds t)
     (sub-walk t) (child-requires t) (key-requires t) (upper-requires t) (has-upper-requires t) (walk-requires t)
-    (λ c. search needs) (returns-4 t) (λ c. search needs) (add-entries t) (add-i t) (loop-less t) (loop-again t)
-    (returns-5 t) (returns-6 t) (returns-7 t)
+    (λ c. search needs) (λ c κs. search needs) (returns-4 t) (λ c. search needs) (add-entries t) (add-i t) (loop-less t) (loop-again t)
+    (λ c κs. search needs) (returns-5 t) (returns-6 t) (returns-7 t)
