@@ -1,13 +1,12 @@
 -- 01, "Checks by example", the starred ones, at P = 1,024: what the definitions that the promises cite answer, and what 01 says.
 -- Assumes nothing.
-use mathlib.Core.Bool.{Bool, true, false}
+use mathlib.Core.Bool.{true}
 use mathlib.Core.List.{List, [], _∷_, map}
 use Prim.Native.Nat.{ℕ, _*_}
 use lib.ListN.{length, replicate}
-use Rattle.page.specs.declared.search.Indexed.{Indexed}
-use Rattle.page.specs.declared.search.Indexed.the-variants as indexed
 use Rattle.page.specs.Layout.{Entry}
 use Rattle.page.specs.Search.{indexOf}
+use Rattle.page.specs.Numbers.{indexedFields}
 use Rattle.pack.specs.Pack.{pagesNeeded, nodeSize, pack}
 use Rattle.pack.specs.Plan.{entry}
 use Rattle.split.specs.Split.{piecesOf}
@@ -23,21 +22,13 @@ pub record Check : Type 0 where
 abbrev check : List ℕ → List ℕ → Check
 check asked expected = record { asked = asked; expected = expected }
 
--- ---- search: number, place, and 1 where the key is found
-abbrev bit : Bool → ℕ
-bit true = 1
-bit false = 0
-
-abbrev placed : Indexed → List ℕ
-placed (indexed.At p) = 0 ∷ p .at ∷ bit (p .found) ∷ []
-placed (indexed.Refused number element) = number ∷ element ∷ 0 ∷ []
-
+-- ---- search: number, index, found, page, element
 -- a leaf with the keys b and d
 abbrev bd : List ℕ
 bd = pack true 2 (entry 0 (98 ∷ []) [] ∷ entry 0 (100 ∷ []) [] ∷ []) 1024
 
 abbrev index : ℕ → List ℕ
-index key = placed (indexOf 1024 bd (key ∷ []))
+index key = indexedFields (indexOf 1024 bd (key ∷ []))
 
 -- ---- split: how many entries each piece has
 abbrev sized : ℕ → ℕ → Entry
@@ -77,10 +68,10 @@ none = newTable (replicate 33792 0)
 -- the starred checks, in 01's order
 unfoldable pub checks : List Check
 checks =
-    check (index 97) (0 ∷ 0 ∷ 0 ∷ [])
-    ∷ check (index 98) (0 ∷ 0 ∷ 1 ∷ [])
-    ∷ check (index 99) (0 ∷ 0 ∷ 0 ∷ [])
-    ∷ check (index 101) (0 ∷ 1 ∷ 0 ∷ [])
+    check (index 97) (0 ∷ 0 ∷ 0 ∷ 0 ∷ 0 ∷ [])
+    ∷ check (index 98) (0 ∷ 0 ∷ 1 ∷ 0 ∷ 0 ∷ [])
+    ∷ check (index 99) (0 ∷ 0 ∷ 0 ∷ 0 ∷ 0 ∷ [])
+    ∷ check (index 101) (0 ∷ 1 ∷ 0 ∷ 0 ∷ 0 ∷ [])
     ∷ check (pagesNeeded 1024 1024 ∷ pagesNeeded 1025 1024 ∷ []) (1 ∷ 2 ∷ [])
     ∷ check (pieces (replicate 12 (sized 4 96))) (4 ∷ 3 ∷ 3 ∷ 2 ∷ [])
     ∷ check (pieces (replicate 8 (sized 4 96))) (4 ∷ 4 ∷ [])

@@ -113,3 +113,12 @@ pub record InRange (m : Meta) : Type 0 where
   pub «num_pages» : m .«num_pages» < 2 ^ 64
   pub «freelist_page» : m .«freelist_page» < 2 ^ 64
   pub «tx_id» : m .«tx_id» < 2 ^ 64
+
+-- 01's number of an answer; a refusal has no other values
+abbrev pub readNumber : MetaRead → ℕ
+readNumber (Read m) = 0
+readNumber (NotRead number) = number
+
+abbrev pub writtenNumber : MetaWritten → ℕ
+writtenNumber (Written hash) = 0
+writtenNumber (NotWritten number) = number

@@ -2,3 +2,4 @@
 pub mod Layout
 pub mod PageRules
 pub mod Search
+pub mod Numbers

@@ -1,10 +1,10 @@
 -- Laws of node sizes: an entry of a sound block is no longer than the block, and a sum past the limit decides.
 -- Assumes nothing.
-use mathlib.Core.Path.{_≡_}
+use mathlib.Core.Path.{_≡_, ap, _∙_}
 use mathlib.Core.Bool.{Bool, true}
 use mathlib.Core.List.{List, [], _∷_}
 use Prim.Native.Nat.{ℕ, _+_, _≤_, _<_}
-use native.Mathlib.Nat.{sub-zero, min-eq-left, min-eq-right}
+use native.Mathlib.Nat.{sub-zero, min-eq-left, min-eq-right, min-le-right}
 use native.Mathlib.Omega.{arith}
 use lib.ListN.{length, length-drop}
 use lib.Seq.{length-take-le}
@@ -14,7 +14,7 @@ use Rattle.page.proofs.LayoutLaws.{element-in}
 use Rattle.pack.specs.Pack.{entrySize, nodeSize}
 use Rattle.pack.specs.Plan.{range}
 use Rattle.pack.proofs.RangeLaws.{range-next, range-end}
-use Rattle.size.specs.Size.{nodeLimit, counted}
+use Rattle.size.specs.Size.{nodeLimit, counted, entriesSize}
 
 -- ---- one entry
 module _ (leaf : Bool) (b : List ℕ) (i : ℕ) (h : valueEnd leaf b i ≤ length b) where
@@ -54,6 +54,20 @@ module _ (leaf : Bool) (b : List ℕ) where
   unfolding entriesOf
   size-all n h = rw (h, sub-zero)
 
+-- in what entries add to a size
+module _ (leaf : Bool) (b : List ℕ) where
+  pub entries-next : (i n : ℕ) → i < n → entriesSize leaf (range leaf b i n) ≡ entrySize leaf (entryOf leaf b i) + entriesSize leaf (range leaf b (i + 1) n)
+  entries-next i n h =
+      let t = size-next leaf b i n h in
+      let m = size-least leaf (range leaf b (i + 1) n) in
+      omega arith
+
+  pub entries-none : (i n : ℕ) → n ≤ i → entriesSize leaf (range leaf b i n) ≡ 0
+  entries-none i n h = let z = size-none leaf b i n h in omega arith
+
+pub size-entries : (leaf : Bool) (es : List Entry) → 40 + entriesSize leaf es ≡ nodeSize leaf es
+size-entries leaf es = let m = size-least leaf es in omega arith
+
 -- ---- the count stops one past the limit
 pub counted-whole : (size : ℕ) → size ≤ nodeLimit → counted size ≡ size
 counted-whole size h = min-eq-left (omega arith)
@@ -64,3 +78,19 @@ counted-past size h = min-eq-right (omega arith)
 -- so that it says whether the limit is passed
 pub counted-limit : (size : ℕ) → counted size ≤ nodeLimit → counted size ≡ size
 counted-limit size h = omega arith
+
+pub counted-most : (size : ℕ) → counted size ≤ nodeLimit + 1
+counted-most size = min-le-right size (nodeLimit + 1)
+
+-- and may stop on the way
+pub counted-then : (size more : ℕ) → counted (counted size + more) ≡ counted (size + more)
+counted-then size more = omega arith
+
+pub counted-step : {total' next : ℕ} (total size rest : ℕ) → total' ≡ counted (total + size) → next ≡ size + rest
+    → counted (total' + rest) ≡ counted (total + next)
+counted-step total size rest e f =
+    let k : total + size + rest ≡ total + (size + rest) = omega arith in
+    rw (e, f) (counted-then (total + size) rest ∙ ap counted k)
+
+pub counted-end : (total rest : ℕ) → total ≤ nodeLimit + 1 → rest ≡ 0 → total ≡ counted (total + rest)
+counted-end total rest h e = omega arith

@@ -1,11 +1,12 @@
 // Node sizes: of one entry, and of a whole block.
 ghost use mathlib.Core.Path.{_≡_};
 ghost use mathlib.Core.Bool.{true};
-ghost use Prim.Native.Nat.{_<_};
+ghost use Prim.Native.Nat.{_+_, _<_, _≤_};
 ghost use Rattle.page.specs.Layout.{countOf, entryOf, entriesOf};
 ghost use Rattle.page.specs.PageRules.{SoundBlock};
 ghost use Rattle.pack.specs.Pack.{entrySize, nodeSize};
-ghost use Rattle.size.specs.Size.{counted};
+ghost use Rattle.pack.specs.Plan.{range};
+ghost use Rattle.size.specs.Size.{nodeLimit, counted, entriesSize};
 use pack::element::element_size;
 use pack::element::value;
 use page::layout::count;
@@ -27,21 +28,36 @@ pub fn entry_size(b: &[u8], leaf: bool, i: usize) -> usize
     element_size(leaf) + (k.len() + v.len())
 }
 
+// A size with some bytes more, counted no further than one past the limit.
+pub fn add_size(sum: usize, more: usize) -> usize
+    requires { ⌜ sum ≤ nodeLimit + 1 ⌝ }
+    ensures { λ r. ⌜ r ≡ counted (sum + more) ⌝ }
+{
+    if NODE_LIMIT + 1 - sum <= more {
+        return NODE_LIMIT + 1;
+    }
+    sum + more
+}
+
+// A size with the entries from `from` to `to` more, counted no further than one past the limit.
+pub fn add_entries(b: &[u8], leaf: bool, from: usize, to: usize, sum: usize) -> usize
+    requires { ⌜ (sum ≤ nodeLimit + 1) × (to ≤ countOf (now b)) × SoundBlock leaf true (now b) ⌝ }
+    ensures { λ r. ⌜ r ≡ counted (sum + entriesSize leaf (range leaf (now (b .entry)) from to)) ⌝ }
+{
+    let mut total = sum;
+    let mut i = from;
+    while i < to {
+        total = add_size(total, entry_size(b, leaf, i));
+        i += 1;
+    }
+    total
+}
+
 // The node size of a sound block, counted no further than one past the limit.
 pub fn node_size(b: &[u8], leaf: bool) -> usize
     requires { ⌜ SoundBlock leaf true (now b) ⌝ }
     ensures { λ r. ⌜ r ≡ counted (nodeSize leaf (entriesOf leaf (now (b .entry)))) ⌝ }
 {
     let n = count(b);
-    let mut sum = NODE_HEADER;
-    let mut i = 0;
-    while i < n {
-        let size = entry_size(b, leaf, i);
-        if NODE_LIMIT - sum < size {
-            return NODE_LIMIT + 1;
-        }
-        sum += size;
-        i += 1;
-    }
-    sum
+    add_entries(b, leaf, 0, n, NODE_HEADER)
 }

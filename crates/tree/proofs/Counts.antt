@@ -1,7 +1,7 @@
 -- Theorem: what a judge that passes counts. `entries` is the number of leaf entries reached from the root, and `blocks` the number of pages
 -- that are reached or are the freelist's.
 -- Assumes nothing.
-use mathlib.Core.Path.{_≡_, refl}
+use mathlib.Core.Path.{_≡_, refl, sym}
 use mathlib.Core.Bool.{Bool, true, false, _||_}
 use mathlib.Core.List.{List, _∷_}
 use mathlib.Core.Logic.{_↔_, _⊎_, inl, inr}
@@ -56,10 +56,16 @@ module _ (image : List ℕ) (P N root f entries blocks : ℕ) (passed : judgeOf 
           go false = exact .1 r
       back (inr e) = rw (eq-eqb q f e)
 
-  -- any list of just the pages that are reached or the freelist's, each once, has `blocks` of them
+  own : Distinct (f ∷ p .visited)
+  own = (apart, tree.each-once N (viewOf image P N) (checked image P N) root entries (p .visited) (p .walked))
+
+  -- the pages that are reached or the freelist's, each once: there are `blocks` of them
+  pub blocks-listed : (ps : List ℕ) × Distinct ps × ((q : ℕ) → (memb q ps ≡ true) ↔ (ReachedFrom image P N root q ⊎ (q ≡ f))) × (length ps ≡ blocks)
+  blocks-listed = (f ∷ p .visited, (own), visited-iff, sym (p .blocks))
+
+  -- and no such list has another number
   pub blocks-counted : (ps : List ℕ) → Distinct ps → ((q : ℕ) → (memb q ps ≡ true) ↔ (ReachedFrom image P N root q ⊎ (q ≡ f))) → length ps ≡ blocks
   blocks-counted ps d h =
-      let own : Distinct (f ∷ p .visited) = (apart, tree.each-once N (viewOf image P N) (checked image P N) root entries (p .visited) (p .walked)) in
       let a = no-longer ps (f ∷ p .visited) d (λ q e. visited-iff q .1 (h q .0 e)) in
       let b = no-longer (f ∷ p .visited) ps own (λ q e. h q .1 (visited-iff q .0 e)) in
       let k = p .blocks in

@@ -1,18 +1,19 @@
 -- Theorem: for any image, page size, page count, root and freelist page that the judge passes, and every key of any length:
 -- lookup doesn't refuse (`never-refused`), reaches a leaf by level 16 (`reaches-a-leaf`), says found exactly when some leaf reached from that root
 -- holds the key, with that entry's kind and value (`found-iff`, `value-shown`), and absent when none does (`absent-iff`);
--- no second leaf entry has that key (`one-entry`); and with any bytes changed outside the blocks reached, every lookup answers the same (`outside-free`).
+-- no second leaf entry has that key (`one-entry`); and with any bytes changed outside the blocks reached, every lookup answers the same (`outside-free`)
+-- and shows the same value (`outside-value`).
 -- Assumes nothing.
 use mathlib.Core.Path.{_≡_, refl, sym, ap, _∙_}
 use mathlib.Core.Bool.{Bool, true, false, cond}
 use mathlib.Core.List.{List, [], _∷_}
 use mathlib.Core.Logic.{_↔_}
 use mathlib.Core.Option.{none}
-use Prim.Native.Nat.{ℕ, zero, suc, _+_, _-_, _*_, _≤_}
+use Prim.Native.Nat.{ℕ, zero, suc, _+_, _-_, _*_, _≤_, _<_}
 use native.Mathlib.Nat.{zero-add, sub-zero}
 use native.Mathlib.Omega.{arith}
-use lib.ListN.{length, take, drop}
-use lib.Seq.{drop-drop, take-take, take-nil}
+use lib.ListN.{length, getD, take, drop, length-drop}
+use lib.Seq.{drop-drop, take-take, take-nil, length-take-le, getD-take, getD-drop, ext-getD}
 use Rattle.page.specs.Layout.{countOf, overflowOf, isLeaf, valueAt, valueSize, valueOf}
 use Rattle.page.specs.PageRules.{headerBad, blockOf}
 use Rattle.walk.specs.Tree.{Key, Item, View, bad, branch, leaf, memb, Answer, refused, found, absent, lookup, Below, LeafEntry}
@@ -21,6 +22,7 @@ use Rattle.walk.proofs.SoundLaws.{below-way}
 use Rattle.walk.proofs.Theorems as tree
 use Rattle.tree.specs.declared.lookup.Fault.{Fault}
 use Rattle.tree.specs.declared.lookup.Value.{Value}
+use Rattle.tree.specs.declared.lookup.Looked.{Looked}
 use Rattle.tree.specs.declared.lookup.Looked.the-variants.{Found, Absent, Refused}
 use Rattle.tree.specs.View.{geometryBad, valueItem, viewOf}
 use Rattle.tree.specs.Lookup.{faultAt, lookedOf, lookupOf, valueIn}
@@ -29,7 +31,7 @@ use Rattle.tree.specs.Sound.{ReachedFrom}
 use Rattle.tree.specs.Outside.{SameWithin}
 use Rattle.tree.specs.Holds.{Holds, valueHeld}
 use Rattle.tree.proofs.ViewLaws.{checked, LeafBlock, view-branch, view-leaf, row-at, at-row}
-use Rattle.tree.proofs.ViewFrame.{block-is, header-ends, block-length, same-view}
+use Rattle.tree.proofs.ViewFrame.{block-is, header-ends, block-end, block-length, same-view}
 use Rattle.tree.proofs.PassesSound.{Passed, judge-passed, sizes-geometry, passes-iff-sound}
 
 -- a part of a part
@@ -192,3 +194,31 @@ module _ (image : List ℕ) (P N root f : ℕ) (passes : Passes image P N root f
       agrees q s m =
           let r = tree.pages-exact N view (checked image P N) root (passes .entries) (p .visited) (p .walked) q .0 m in
           same-view image P N q (header-ends N q _ (header-sound q r)) (p .sizes .holds) image′ (p .sizes .leastSize) (same .sameLength) (λ k. same .sameBytes q k r) s
+
+  -- and the value shown has the same bytes
+  pub outside-value : (image′ : List ℕ) → SameWithin image image′ P N root → (key : Key)
+      → valueIn image′ (lookupOf image′ P N root key) ≡ valueIn image (lookupOf image P N root key)
+  outside-value image′ same key = ap (valueIn image′) (outside-free image′ same key) ∙ go (lookupOf image P N root key) refl
+    where
+      part : (n k : ℕ) → k + n ≤ length image → ((j : ℕ) → j < n → getD image′ (k + j) 0 ≡ getD image (k + j) 0) → take n (drop k image′) ≡ take n (drop k image)
+      part n k l h =
+          let e = same .sameLength in
+          let a : length (take n (drop k image′)) ≡ n = length-take-le n (drop k image′) (rw length-drop (omega arith)) in
+          let b : length (take n (drop k image)) ≡ n = length-take-le n (drop k image) (rw length-drop (omega arith)) in
+          ext-getD 0 (take n (drop k image′)) (take n (drop k image)) (a ∙ sym b)
+          (λ j m.
+          getD-take n (drop k image′) j 0 (omega arith) ∙ getD-drop k image′ j 0 ∙ h j (omega arith)
+          ∙ sym (getD-take n (drop k image) j 0 (omega arith) ∙ getD-drop k image j 0))
+
+      held : (page i : ℕ) → Holds image P N root key page i → valueIn image′ (Found (valueHeld image P page i)) ≡ valueIn image (Found (valueHeld image P page i))
+      held page i h =
+          let w = leaf-view key page i h .2 .sound .within i (h .index) in
+          let f = block-end image P N page (header-ends N page _ (header-sound page (h .reached))) (p .sizes .holds) in
+          let l = block-length image P N page (header-ends N page _ (header-sound page (h .reached))) (p .sizes .holds) in
+          part (valueSize true (blockOf image P page) i) (page * P + valueAt true (blockOf image P page) i) (omega arith)
+          (λ j m. same .sameBytes page (page * P + valueAt true (blockOf image P page) i + j) (h .reached) (omega arith) (omega arith))
+
+      go : (a : Looked) → lookupOf image P N root key ≡ a → valueIn image′ a ≡ valueIn image a
+      go (Found v) e = let x = found-iff key v .0 e in rw (x .3) (held (x .0) (x .1) (x .2))
+      go Absent e = refl
+      go (Refused x) e = refl

@@ -1,0 +1,112 @@
+-- Edits: the same entries make the same node, and each edit's outcome once its refusals are passed.
+-- Assumes nothing.
+use mathlib.Core.Path.{_≡_, refl, sym, ap, _∙_}
+use mathlib.Core.Bool.{Bool, true, false}
+use mathlib.Core.List.{List, [], _∷_}
+use Prim.Native.Nat.{ℕ, _≤_, _<_}
+use native.Mathlib.Omega.{arith}
+use lib.ListN.{length}
+use borrow.Author.Tests.{lt-ltb, le-ltb}
+use Rattle.field.specs.Sizes.{sizeAllowed}
+use Rattle.page.specs.declared.rules.Verdict.the-variants.{Sound, Breach}
+use Rattle.page.specs.Layout.{Entry, countOf, isLeaf, entriesOf}
+use Rattle.page.specs.PageRules.{kindBad, lentCheckOf}
+use Rattle.page.specs.Search.{leafOf}
+use Rattle.pack.specs.Plan.{entry, removeAt}
+use Rattle.node.specs.declared.edit.Edited.{Edited}
+use Rattle.node.specs.declared.edit.Edited.the-variants.{Written, Refused}
+use Rattle.node.specs.declared.edit.Deleted.the-variants as deleted
+use Rattle.node.specs.Edit.{Outcome, refused, node, written, answer, output, Edits, inserted, deleteOf, deletedAnswer, newLeafOf, newBranchOf, insertOf}
+
+pub same-node : {es es' : List Entry} {id id' : ℕ} {r : Edited} {exit : List ℕ} (leaf : Bool) (P : ℕ) (out : List ℕ) → es ≡ es' → id ≡ id'
+    → Edits leaf id P out (written leaf P out es) r exit → Edits leaf id' P out (written leaf P out es') r exit
+same-node leaf P out e f h = rw (e, f) at h
+
+-- an outcome that is known, a refusal that is
+pub same-edits : {o o' : Outcome} {r : Edited} {exit : List ℕ} (leaf : Bool) (id P : ℕ) (out : List ℕ) → o' ≡ o → Edits leaf id P out o r exit → Edits leaf id P out o' r exit
+same-edits leaf id P out e h = rw e h
+
+pub refused-edits : {o : Outcome} (leaf : Bool) (id P : ℕ) (out : List ℕ) (number element : ℕ) → o ≡ refused number element
+    → Edits leaf id P out o (Refused number element) out
+refused-edits leaf id P out number element e = record { answers = rw e; leaves = rw e }
+
+-- ---- delete
+module _ (P : ℕ) (b : List ℕ) (i : ℕ) (out : List ℕ) where
+  pub delete-breach : (number element : ℕ) → lentCheckOf P b ≡ Breach number element → deleteOf P b i out ≡ refused number element
+  unfolding deleteOf
+  delete-breach number element e = rw e
+
+  module _ (passed : lentCheckOf P b ≡ Sound) where
+    pub delete-branch : isLeaf b ≡ false → deleteOf P b i out ≡ refused 11 0
+    unfolding deleteOf
+    delete-branch h = rw (passed, h)
+
+    pub delete-past : isLeaf b ≡ true → countOf b ≤ i → deleteOf P b i out ≡ refused 11 0
+    unfolding deleteOf
+    delete-past h k = rw (passed, h, le-ltb i (countOf b) k)
+
+    pub delete-goes : isLeaf b ≡ true → i < countOf b → deleteOf P b i out ≡ written true P out (removeAt i (entriesOf true b))
+    unfolding deleteOf
+    delete-goes h k = rw (passed, h, lt-ltb i (countOf b) k)
+
+-- an edit's answer as that of `delete`
+as-refused : (P : ℕ) (b : List ℕ) (i : ℕ) (o : Outcome) (number element : ℕ) → Refused number element ≡ answer true P o
+    → deleted.Refused number element ≡ deletedAnswer P b i o
+as-refused P b i (refused m j) number element e = cc
+as-refused P b i (node es) number element e = absurd (let z : _≡_ {A = ℕ} 0 1 = cc in omega arith)
+
+as-removed : (P : ℕ) (b : List ℕ) (i : ℕ) (o : Outcome) (bytes : ℕ) → Written bytes ≡ answer true P o
+    → deleted.Removed bytes (leafOf b i) ≡ deletedAnswer P b i o
+as-removed P b i (refused m j) bytes e = absurd (let z : _≡_ {A = ℕ} 0 1 = cc in omega arith)
+as-removed P b i (node es) bytes e = cc
+
+module _ {id : ℕ} {out exit : List ℕ} {o o' : Outcome} {r : Edited} (P : ℕ) (b : List ℕ) (i : ℕ) (same : o' ≡ o) (h : Edits true id P out o r exit) where
+  pub deleted-refused : (number element : ℕ) → r ≡ Refused number element
+      → (deleted.Refused number element ≡ deletedAnswer P b i o') × (exit ≡ output true id P out o')
+  deleted-refused number element e = rw same (as-refused P b i o number element (sym e ∙ h .answers), h .leaves)
+
+  pub deleted-done : (bytes : ℕ) → r ≡ Written bytes → (deleted.Removed bytes (leafOf b i) ≡ deletedAnswer P b i o') × (exit ≡ output true id P out o')
+  deleted-done bytes e = rw same (as-removed P b i o bytes (sym e ∙ h .answers), h .leaves)
+
+-- ---- new nodes
+module _ (P : ℕ) (out : List ℕ) where
+  pub leaf-size : sizeAllowed P ≡ false → newLeafOf P out ≡ refused 1 0
+  unfolding newLeafOf
+  leaf-size h = rw h
+
+  pub leaf-goes : sizeAllowed P ≡ true → newLeafOf P out ≡ written true P out []
+  unfolding newLeafOf
+  leaf-goes h = rw h
+
+  module _ (key : List ℕ) (child : ℕ) where
+    pub branch-size : sizeAllowed P ≡ false → newBranchOf P key child out ≡ refused 1 0
+    unfolding newBranchOf
+    branch-size h = rw h
+
+    pub branch-child : sizeAllowed P ≡ true → child < 2 → newBranchOf P key child out ≡ refused 11 0
+    unfolding newBranchOf
+    branch-child h l = rw (h, lt-ltb child 2 l)
+
+    pub branch-goes : sizeAllowed P ≡ true → 2 ≤ child → newBranchOf P key child out ≡ written false P out (entry child key [] ∷ [])
+    unfolding newBranchOf
+    branch-goes h l = rw (h, le-ltb child 2 l)
+
+-- ---- insert in a leaf
+module _ (P : ℕ) (b key : List ℕ) (kind : ℕ) (value out : List ℕ) where
+  pub insert-breach : (number element : ℕ) → lentCheckOf P b ≡ Breach number element → insertOf P b key kind value out ≡ refused number element
+  unfolding insertOf
+  insert-breach number element e = rw e
+
+  module _ (passed : lentCheckOf P b ≡ Sound) where
+    pub insert-branch : isLeaf b ≡ false → insertOf P b key kind value out ≡ refused 11 0
+    unfolding insertOf
+    insert-branch h = rw (passed, h)
+
+    pub insert-kind : isLeaf b ≡ true → kindBad kind (length value) ≡ true → insertOf P b key kind value out ≡ refused 11 0
+    unfolding insertOf
+    insert-kind h k = rw (passed, h, k)
+
+    pub insert-goes : isLeaf b ≡ true → kindBad kind (length value) ≡ false
+        → insertOf P b key kind value out ≡ written true P out (inserted (entry kind key value) (entriesOf true b))
+    unfolding insertOf
+    insert-goes h k = rw (passed, h, k)

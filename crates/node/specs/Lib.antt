@@ -1,0 +1,3 @@
+-- What the contracts of `node` cite.
+pub mod Edit
+pub mod Measure

@@ -1,0 +1,66 @@
+// The size of a lent node, and whether it is to be merged.
+ghost use mathlib.Core.Path.{_≡_};
+ghost use mathlib.Core.Bool.{_||_};
+ghost use Prim.Native.Nat.{_/_, _<_, _≤_};
+ghost use lib.Dec.{ltb};
+ghost use lib.ListN.{length};
+ghost use Rattle.page.specs.Layout.{countOf};
+ghost use Rattle.pack.specs.Pack.{pagesNeeded};
+ghost use Rattle.node.specs.Measure.{sizeOf, needsMergingOf};
+use page::Verdict;
+use page::layout::count;
+use page::layout::is_leaf;
+use page::rules::lent_check;
+use size::NODE_LIMIT;
+use size::node_size;
+
+// What `size` answers: the node size and the pages needed; a refusal has 01's number and the element.
+pub enum Measure {
+    Bytes(usize, usize),
+    Refused(u64, usize),
+}
+
+// What `needs_merging` answers.
+pub enum Merging {
+    Wanted(bool),
+    Refused(u64, usize),
+}
+
+// How many pages a size takes.
+pub fn pages_needed(size: usize, p: usize) -> usize
+    requires { ⌜ (size ≤ 1048577) × (0 < p) × (p ≤ 65536) ⌝ }
+    ensures { λ r. ⌜ r ≡ pagesNeeded size p ⌝ }
+{
+    (size + (p - 1)) / p
+}
+
+// The size of a lent block's node, and the pages that it needs.
+pub fn size(b: &[u8], p: usize) -> Measure
+    ensures { λ r. ⌜ r ≡ sizeOf p (now (b .entry)) ⌝ }
+{
+    match lent_check(b, p) {
+        Verdict::Breach(number, i) => Measure::Refused(number, i),
+        Verdict::Sound => {
+            let bytes = node_size(b, is_leaf(b));
+            if NODE_LIMIT < bytes {
+                return Measure::Refused(15, 0);
+            }
+            Measure::Bytes(bytes, pages_needed(bytes, p))
+        }
+    }
+}
+
+// Whether merging is wanted of a lent block: it has fewer than 2 entries, or its size is below a quarter of a page.
+pub fn needs_merging(b: &[u8], p: usize) -> Merging
+    ensures { λ r. ⌜ r ≡ needsMergingOf p (now (b .entry)) ⌝ }
+{
+    match lent_check(b, p) {
+        Verdict::Breach(number, i) => Merging::Refused(number, i),
+        Verdict::Sound => {
+            if count(b) < 2 {
+                return Merging::Wanted(true);
+            }
+            Merging::Wanted(node_size(b, is_leaf(b)) < p / 4)
+        }
+    }
+}
