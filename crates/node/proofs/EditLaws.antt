@@ -1,6 +1,6 @@
 -- Edits: the same entries make the same node, and each edit's outcome once its refusals are passed.
 -- Assumes nothing.
-use mathlib.Core.Path.{_≡_, refl, sym, ap, _∙_}
+use mathlib.Core.Path.{_≡_, sym, _∙_}
 use mathlib.Core.Bool.{Bool, true, false}
 use mathlib.Core.List.{List, [], _∷_}
 use Prim.Native.Nat.{ℕ, _≤_, _<_}
@@ -16,7 +16,7 @@ use Rattle.pack.specs.Plan.{entry, removeAt}
 use Rattle.node.specs.declared.edit.Edited.{Edited}
 use Rattle.node.specs.declared.edit.Edited.the-variants.{Written, Refused}
 use Rattle.node.specs.declared.edit.Deleted.the-variants as deleted
-use Rattle.node.specs.Edit.{Outcome, refused, node, written, answer, output, Edits, inserted, deleteOf, deletedAnswer, newLeafOf, newBranchOf, insertOf}
+use Rattle.node.specs.Edit.{Outcome, refused, node, written, answer, output, Edits, inserted, deleteOf, deletedAnswer, newLeafOf, newBranchOf, insertOf, replaceBranch, addBranch, insertBranchOf}
 
 pub same-node : {es es' : List Entry} {id id' : ℕ} {r : Edited} {exit : List ℕ} (leaf : Bool) (P : ℕ) (out : List ℕ) → es ≡ es' → id ≡ id'
     → Edits leaf id P out (written leaf P out es) r exit → Edits leaf id' P out (written leaf P out es') r exit
@@ -110,3 +110,28 @@ module _ (P : ℕ) (b key : List ℕ) (kind : ℕ) (value out : List ℕ) where
         → insertOf P b key kind value out ≡ written true P out (inserted (entry kind key value) (entriesOf true b))
     unfolding insertOf
     insert-goes h k = rw (passed, h, k)
+
+-- ---- insert in a branch
+module _ (P : ℕ) (b : List ℕ) (has : Bool) (original key : List ℕ) (child : ℕ) (out : List ℕ) where
+  pub branched-breach : (number element : ℕ) → lentCheckOf P b ≡ Breach number element → insertBranchOf P b has original key child out ≡ refused number element
+  unfolding insertBranchOf
+  branched-breach number element e = rw e
+
+  module _ (passed : lentCheckOf P b ≡ Sound) where
+    pub branched-leaf : isLeaf b ≡ true → insertBranchOf P b has original key child out ≡ refused 11 0
+    unfolding insertBranchOf
+    branched-leaf h = rw (passed, h)
+
+    pub branched-child : isLeaf b ≡ false → child < 2 → insertBranchOf P b has original key child out ≡ refused 11 0
+    unfolding insertBranchOf
+    branched-child h l = rw (passed, h, lt-ltb child 2 l)
+
+    pub branched-replaces : isLeaf b ≡ false → 2 ≤ child → has ≡ true
+        → insertBranchOf P b has original key child out ≡ replaceBranch P out original (entry child key []) (entriesOf false b)
+    unfolding insertBranchOf
+    branched-replaces h l t = rw (passed, h, le-ltb child 2 l, t)
+
+    pub branched-adds : isLeaf b ≡ false → 2 ≤ child → has ≡ false
+        → insertBranchOf P b has original key child out ≡ addBranch P out (entry child key []) (entriesOf false b)
+    unfolding insertBranchOf
+    branched-adds h l t = rw (passed, h, le-ltb child 2 l, t)

@@ -1,7 +1,7 @@
 -- Where an entry is inserted: in place of an equal key, and else between the lower keys and the higher ones.
 -- Assumes nothing.
-use mathlib.Core.Path.{_≡_, refl, sym, ap, _∙_}
-use mathlib.Core.Bool.{Bool, true, false}
+use mathlib.Core.Path.{_≡_, refl, sym, ap}
+use mathlib.Core.Bool.{Bool, true}
 use mathlib.Core.List.{List, _∷_}
 use mathlib.Core.Logic.{⊎-elim}
 use Prim.Native.Nat.{ℕ, zero, suc, _+_, _≤_, _<_}
@@ -14,12 +14,10 @@ use Rattle.field.proofs.OrderLaws.{order-refl}
 use Rattle.page.specs.declared.search.Place.{Place}
 use Rattle.page.specs.Layout.{Entry, countOf, keyOf, entryOf, entriesFrom, entriesOf}
 use Rattle.page.specs.PageRules.{SoundBlock}
-use Rattle.page.specs.Search.{placeOf}
-use Rattle.page.proofs.SearchLaws.{Missing, missing-at, found-at, before-equal}
-use Rattle.pack.specs.declared.write.Plan.{Plan}
-use Rattle.pack.specs.Plan.{entry, planned, insertAt, replaceAt}
-use Rattle.pack.proofs.PlanLaws.{plan-insert, plan-replace}
-use Rattle.node.specs.Edit.{inserted, Between}
+use Rattle.page.proofs.SearchLaws.{Missing, before-equal}
+use Rattle.pack.specs.Plan.{entry, insertAt, replaceAt}
+use Rattle.node.specs.Edit.{inserted}
+use Rattle.node.specs.Neighbours.{Between}
 
 -- ---- among the k entries from i on
 module _ (leaf : Bool) (b : List ℕ) (e : Entry) where

@@ -1,9 +1,9 @@
 -- 01, "Node edits": the entries that an edit makes of a lent block's, what refuses it, the answer, and what the output then holds.
 -- Assumes nothing.
 use mathlib.Core.Path.{_≡_}
-use mathlib.Core.Bool.{Bool, true, false, not, cond}
+use mathlib.Core.Bool.{Bool, true, false, not, cond, _&&_, _||_}
 use mathlib.Core.List.{List, [], _∷_, _++_}
-use Prim.Native.Nat.{ℕ, _≤_, _<_}
+use Prim.Native.Nat.{ℕ}
 use lib.Dec.{ltb}
 use lib.ListN.{length, drop}
 use Rattle.field.specs.declared.order.Order.{Order}
@@ -12,8 +12,8 @@ use Rattle.field.specs.Order.{orderOf}
 use Rattle.field.specs.Sizes.{sizeAllowed}
 use Rattle.page.specs.declared.rules.Verdict.{Verdict}
 use Rattle.page.specs.declared.rules.Verdict.the-variants.{Sound, Breach}
-use Rattle.page.specs.Layout.{Entry, countOf, isLeaf, keyOf, entriesOf}
-use Rattle.page.specs.PageRules.{kindBad, lentCheckOf}
+use Rattle.page.specs.Layout.{Entry, countOf, isLeaf, entriesOf}
+use Rattle.page.specs.PageRules.{kindBad, isLower, lentCheckOf}
 use Rattle.page.specs.Search.{leafOf}
 use Rattle.pack.specs.Pack.{nodeSize, blockSize, pack}
 use Rattle.pack.specs.Plan.{entry, removeAt}
@@ -88,14 +88,48 @@ unfoldable pub inserted : Entry → List Entry → List Entry
 inserted e [] = e ∷ []
 inserted e (f ∷ es) = placed (orderOf (f .key) (e .key)) e f es (inserted e es)
 
--- the place of an absent key among a block's
-pub record Between (leaf : Bool) (b key : List ℕ) (i : ℕ) : Type 0 where
-  pub upto : i ≤ countOf b
-  pub lower : (k : ℕ) → k < i → orderOf (keyOf leaf b k) key ≡ Lower
-  pub higher : (k : ℕ) → i ≤ k → k < countOf b → orderOf (keyOf leaf b k) key ≡ Higher
-
 -- a branch, a kind above 1 or a bucket value not of 16 bytes is 11
 unfoldable pub insertOf : ℕ → List ℕ → List ℕ → ℕ → List ℕ → List ℕ → Outcome
 insertOf P b key kind value out =
     checked (lentCheckOf P b)
     (refuse (not (isLeaf b)) 11 (refuse (kindBad kind (length value)) 11 (written true P out (inserted (entry kind key value) (entriesOf true b)))))
+
+-- ---- insert_branch
+abbrev pub isEqual : Order → Bool
+isEqual Lower = false
+isEqual Equal = true
+isEqual Higher = false
+
+-- whether a key is among the entries'
+unfoldable pub present : List ℕ → List Entry → Bool
+present key [] = false
+present key (f ∷ es) = isEqual (orderOf (f .key) key) || present key es
+
+-- another entry in place of the one with the original key
+unfoldable pub replaced : List ℕ → Entry → List Entry → List Entry
+replaced original e [] = []
+replaced original e (f ∷ es) = cond (isEqual (orderOf (f .key) original)) (e ∷ es) (f ∷ replaced original e es)
+
+-- whether each key is above the one before it
+unfoldable pub inOrder : List Entry → Bool
+inOrder [] = true
+inOrder (e ∷ []) = true
+inOrder (e ∷ f ∷ es) = isLower (orderOf (e .key) (f .key)) && inOrder (f ∷ es)
+
+-- with an original key, that key must be present, and its entry is replaced unless that breaks the order; with none, the own key must be absent: else 14
+unfoldable pub replaceBranch : ℕ → List ℕ → List ℕ → Entry → List Entry → Outcome
+replaceBranch P out original e es =
+    refuse (not (present original es)) 14 (refuse (not (inOrder (replaced original e es))) 14 (written false P out (replaced original e es)))
+
+unfoldable pub addBranch : ℕ → List ℕ → Entry → List Entry → Outcome
+addBranch P out e es = refuse (present (e .key) es) 14 (written false P out (inserted e es))
+
+-- a leaf, or a branch page number below 2, is 11
+unfoldable pub insertBranchOf : ℕ → List ℕ → Bool → List ℕ → List ℕ → ℕ → List ℕ → Outcome
+insertBranchOf P b has original key child out =
+    checked (lentCheckOf P b)
+    (refuse (isLeaf b) 11
+    (refuse (ltb child 2) 11
+    (cond has
+    (replaceBranch P out original (entry child key []) (entriesOf false b))
+    (addBranch P out (entry child key []) (entriesOf false b)))))

@@ -1,3 +1,4 @@
 -- What the contracts of `node` cite.
 pub mod Edit
 pub mod Measure
+pub mod Neighbours

@@ -1,6 +1,6 @@
 -- 01, "Layout" and "Node edits": the size of a lent node, the pages that it needs, and whether merging is wanted.
 -- Assumes nothing.
-use mathlib.Core.Bool.{Bool, cond, _||_}
+use mathlib.Core.Bool.{cond, _||_}
 use mathlib.Core.List.{List}
 use Prim.Native.Nat.{ℕ, _/_}
 use lib.Dec.{ltb}

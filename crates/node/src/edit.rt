@@ -1,14 +1,13 @@
 // Edits: each reads one lent block and writes the packed block of its result.
 ghost use mathlib.Core.Path.{_≡_};
 ghost use mathlib.Core.Bool.{true, false};
-ghost use mathlib.Core.List.{[], _∷_};
 ghost use Prim.Native.Nat.{_<_, _≤_};
 ghost use Rattle.page.specs.declared.rules.Verdict.the-variants.{Sound};
 ghost use Rattle.page.specs.Layout.{idOf, countOf, isLeaf, entriesOf};
 ghost use Rattle.page.specs.PageRules.{lentCheckOf};
 ghost use Rattle.pack.specs.Plan.{entry, maybe, removeAt};
-ghost use Rattle.node.specs.Edit.{written, Edits, output, inserted, deleteOf, deletedAnswer, newLeafOf, newBranchOf, insertOf};
-use super::place::plan_of;
+ghost use Rattle.node.specs.Edit.{written, Edits, output, deleteOf, deletedAnswer, newLeafOf, newBranchOf, insertOf};
+use super::place::put;
 use super::result::write_planned;
 use field::sizes::size_allowed;
 use pack::write::Plan;
@@ -124,17 +123,6 @@ pub fn new_branch(p: usize, id: u64, key: &[u8], child: u64, out: &mut [u8]) -> 
         return Edited::Refused(11, 0);
     }
     write_new(false, true, child, key, &key[0..0], id, p, out)
-}
-
-// Writes a sound block with an entry put in order, in place of one with an equal key.
-fn put(b: &[u8], leaf: bool, p: usize, tag: u64, key: &[u8], value: &[u8], out: &mut [u8]) -> Edited
-    requires { ⌜ (lentCheckOf p (now b) ≡ Sound) × (isLeaf (now b) ≡ leaf) ⌝ }
-    ensures { λ r. ⌜ Edits leaf (idOf (now (b .entry))) p (now (out .entry))
-        (written leaf p (now (out .entry)) (inserted (entry tag (now (key .entry)) (now (value .entry))) (entriesOf leaf (now (b .entry))))) r (now (out .exit)) ⌝ }
-{
-    let page = id(b) as u64;
-    let plan = plan_of(b, leaf, tag, key);
-    write_planned(b, leaf, plan, key, value, page, p, out)
 }
 
 // Writes a lent leaf with an entry put in order, in place of one with an equal key.

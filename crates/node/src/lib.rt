@@ -1,4 +1,5 @@
 // Nodes: the size of a lent block, and edits that read one lent block and write another.
+pub mod branch;
 pub mod edit;
 pub mod measure;
 mod place;

@@ -1,12 +1,7 @@
 // The size of a lent node, and whether it is to be merged.
 ghost use mathlib.Core.Path.{_≡_};
-ghost use mathlib.Core.Bool.{_||_};
-ghost use Prim.Native.Nat.{_/_, _<_, _≤_};
-ghost use lib.Dec.{ltb};
-ghost use lib.ListN.{length};
-ghost use Rattle.page.specs.Layout.{countOf};
-ghost use Rattle.pack.specs.Pack.{pagesNeeded};
 ghost use Rattle.node.specs.Measure.{sizeOf, needsMergingOf};
+use super::result::pages_needed;
 use page::Verdict;
 use page::layout::count;
 use page::layout::is_leaf;
@@ -24,14 +19,6 @@ pub enum Measure {
 pub enum Merging {
     Wanted(bool),
     Refused(u64, usize),
-}
-
-// How many pages a size takes.
-pub fn pages_needed(size: usize, p: usize) -> usize
-    requires { ⌜ (size ≤ 1048577) × (0 < p) × (p ≤ 65536) ⌝ }
-    ensures { λ r. ⌜ r ≡ pagesNeeded size p ⌝ }
-{
-    (size + (p - 1)) / p
 }
 
 // The size of a lent block's node, and the pages that it needs.

@@ -1,16 +1,21 @@
-// Where a new entry goes among a sound block's.
+// Where a new entry goes among a sound block's, and the block with it.
 ghost use mathlib.Core.Path.{_≡_};
 ghost use mathlib.Core.Bool.{true, false};
 ghost use mathlib.Core.List.{List};
 ghost use Prim.Native.Nat.{ℕ};
-ghost use Rattle.page.specs.Layout.{countOf, entriesOf};
-ghost use Rattle.page.specs.PageRules.{SoundBlock};
+ghost use Rattle.page.specs.declared.rules.Verdict.the-variants.{Sound};
+ghost use Rattle.page.specs.Layout.{idOf, countOf, isLeaf, entriesOf};
+ghost use Rattle.page.specs.PageRules.{SoundBlock, lentCheckOf};
 ghost use Rattle.page.specs.Search.{placeOf};
 ghost use Rattle.pack.specs.Plan.{entry, planned, Within};
-ghost use Rattle.node.specs.Edit.{inserted, Between};
+ghost use Rattle.node.specs.Edit.{written, Edits, inserted};
+ghost use Rattle.node.specs.Neighbours.{Between};
+use super::edit::Edited;
+use super::result::write_planned;
 use field::Order;
 use pack::write::Plan;
 use page::layout::count;
+use page::layout::id;
 use page::layout::key_order;
 use page::search::find;
 
@@ -30,7 +35,7 @@ fn insertion_place(b: &[u8], leaf: bool, n: usize, key: &[u8], at: usize) -> usi
 }
 
 // The plan of a sound block's entries with a new one put in order, in place of one with an equal key.
-pub fn plan_of(b: &[u8], leaf: bool, tag: u64, key: &[u8]) -> Plan
+fn plan_of(b: &[u8], leaf: bool, tag: u64, key: &[u8]) -> Plan
     requires { ⌜ SoundBlock leaf true (now b) ⌝ }
     ensures { λ r. ⌜ Within (now (b .entry)) r
         × ((value : List ℕ) → planned leaf (now (b .entry)) r (now (key .entry)) value
@@ -58,4 +63,23 @@ pub fn plan_of(b: &[u8], leaf: bool, tag: u64, key: &[u8]) -> Plan
         resume: i,
         last: n,
     }
+}
+
+// Writes a sound block with an entry put in order, in place of one with an equal key.
+pub fn put(
+    b: &[u8],
+    leaf: bool,
+    p: usize,
+    tag: u64,
+    key: &[u8],
+    value: &[u8],
+    out: &mut [u8],
+) -> Edited
+    requires { ⌜ (lentCheckOf p (now b) ≡ Sound) × (isLeaf (now b) ≡ leaf) ⌝ }
+    ensures { λ r. ⌜ Edits leaf (idOf (now (b .entry))) p (now (out .entry))
+        (written leaf p (now (out .entry)) (inserted (entry tag (now (key .entry)) (now (value .entry))) (entriesOf leaf (now (b .entry))))) r (now (out .exit)) ⌝ }
+{
+    let page = id(b) as u64;
+    let plan = plan_of(b, leaf, tag, key);
+    write_planned(b, leaf, plan, key, value, page, p, out)
 }

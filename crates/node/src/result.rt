@@ -3,12 +3,11 @@ ghost use mathlib.Core.Path.{_≡_};
 ghost use mathlib.Core.Bool.{true};
 ghost use Prim.Native.Nat.{_+_, _<_, _≤_};
 ghost use Rattle.page.specs.PageRules.{SoundBlock};
-ghost use Rattle.pack.specs.Pack.{nodeSize};
+ghost use Rattle.pack.specs.Pack.{nodeSize, pagesNeeded};
 ghost use Rattle.pack.specs.Plan.{fresh, planned, Within};
 ghost use Rattle.size.specs.Size.{nodeLimit, counted, entriesSize};
 ghost use Rattle.node.specs.Edit.{written, Edits};
 use super::edit::Edited;
-use super::measure::pages_needed;
 use pack::element::element_size;
 use pack::write::Plan;
 use pack::write::write;
@@ -39,6 +38,14 @@ fn plan_size(b: &[u8], leaf: bool, plan: Plan, key: &[u8], value: &[u8]) -> usiz
     let front = add_entries(b, leaf, plan.first, plan.stop, NODE_HEADER);
     let middle = add_new(front, leaf, plan, key, value);
     add_entries(b, leaf, plan.resume, plan.last, middle)
+}
+
+// How many pages a size takes.
+pub fn pages_needed(size: usize, p: usize) -> usize
+    requires { ⌜ (size ≤ 1048577) × (0 < p) × (p ≤ 65536) ⌝ }
+    ensures { λ r. ⌜ r ≡ pagesNeeded size p ⌝ }
+{
+    (size + (p - 1)) / p
 }
 
 // Writes the block of the planned entries: refused with 15 where the node is above the limit, and with 10 where the output is too short.

@@ -4,3 +4,7 @@ pub mod RunLaws
 pub mod PartedLaws
 pub mod PieceLaws
 pub mod Examples
+pub mod PartLaws
+pub mod WriteLaws
+pub mod PagesLaws
+pub mod WrittenLaws

@@ -1,6 +1,6 @@
 -- Laws of what `split` answers and leaves: which case holds when, and what the cuts put into the lent list are.
 -- Assumes nothing.
-use mathlib.Core.Path.{_≡_, refl, sym, ap, _∙_}
+use mathlib.Core.Path.{_≡_, sym, ap, _∙_}
 use mathlib.Core.Bool.{Bool, true}
 use mathlib.Core.List.{List, _++_}
 use Prim.Native.Nat.{ℕ, _≤_, _<_}
@@ -10,18 +10,18 @@ use borrow.Author.Tests.{lt-ltb, le-ltb, not-false}
 use Rattle.field.specs.Sizes.{sizeAllowed}
 use Rattle.field.specs.Run.{putAt}
 use Rattle.field.proofs.RunLaws.{put-start}
-use Rattle.page.specs.declared.rules.Verdict.the-variants.{Sound, Breach}
+use Rattle.page.specs.declared.rules.Verdict.the-variants.{Sound}
 use Rattle.page.specs.Layout.{entriesOf}
-use Rattle.page.specs.PageRules.{lentCheckOf}
+use Rattle.page.specs.PageRules.{lentCheckOf, SoundBlock}
 use Rattle.page.proofs.TestLaws.{and-both}
 use Rattle.page.proofs.LentLaws.{lent-iff}
 use Rattle.size.specs.Size.{nodeLimit}
-use Rattle.split.specs.declared.cuts.Parted.{Parted}
 use Rattle.split.specs.declared.cuts.Parted.the-variants.{Cuts, Refused}
 use Rattle.split.specs.Split.{threshold, cutsOf}
-use Rattle.split.specs.Run.{cutsAfter, runEnd}
-use Rattle.split.specs.Parted.{partedIf, listLeft}
-use Rattle.split.proofs.RunLaws.{cuts-run}
+use Rattle.split.specs.Run.{cutsAfter, runEnd, Ready}
+use Rattle.split.specs.Parted.{partedIf}
+use Rattle.split.proofs.Halved.{size-range}
+use Rattle.split.proofs.RunLaws.{cuts-run, end-within}
 
 -- the page size of a block that passes is allowed
 pub lent-size : (P : ℕ) (b : List ℕ) → lentCheckOf P b ≡ Sound → sizeAllowed P ≡ true
@@ -43,7 +43,14 @@ pub cuts-code : (leaf : Bool) (P : ℕ) (b : List ℕ) (t end : ℕ) → t ≡ t
     → cutsAfter leaf t b end 0 ≡ cutsOf leaf P (entriesOf leaf b)
 cuts-code leaf P b t end ht he = rw (ht, he) (sym (cuts-run leaf P b))
 
--- the cuts put from the start, and how many they are
-pub put-made : {run list : List ℕ} (n : ℕ) (made old : List ℕ) → run ≡ made → n ≡ length run → list ≡ putAt old 0 run
-    → list ≡ listLeft (Cuts n) made old
-put-made n made old e hn p = p ∙ ap (putAt old 0) e ∙ put-start old made ∙ ap (λ (k : ℕ). made ++ drop k old) (sym (hn ∙ ap length e))
+-- what the loops over the pieces go on with
+pub run-ready : (leaf : Bool) (P : ℕ) (b : List ℕ) (t end : ℕ) → SoundBlock leaf true b → sizeAllowed P ≡ true → t ≡ threshold P → end ≡ runEnd leaf P b
+    → Ready leaf b P t end
+run-ready leaf P b t end s a ht he =
+    let r = size-range P a in
+    let w = end-within leaf P b in
+    record { sound = s; ending = omega arith; low = omega arith; high = omega arith; least = omega arith; most = omega arith }
+
+-- a run put from the start, and how long it is
+pub put-made : {run list : List ℕ} (n : ℕ) (made old : List ℕ) → run ≡ made → n ≡ length made → list ≡ putAt old 0 run → list ≡ made ++ drop n old
+put-made n made old e hn p = p ∙ ap (putAt old 0) e ∙ put-start old made ∙ ap (λ (k : ℕ). made ++ drop k old) (sym hn)

@@ -1,18 +1,18 @@
 -- The pieces of a node: joined they are its entries in order, there is one more than there are cuts, and each has at least 2 entries.
 -- Cuts stand 2 or more apart, since the count restarts at each and the run stops before the last two entries. Assumes nothing.
 use mathlib.Core.Path.{_≡_, refl, sym, ap, _∙_}
-use mathlib.Core.Bool.{Bool, true, false, cond, _&&_, _||_}
-use mathlib.Core.List.{List, [], _∷_, _++_, append-nil, flatten}
+use mathlib.Core.Bool.{Bool, true, false, cond}
+use mathlib.Core.List.{List, [], _∷_, append-nil, flatten}
 use Prim.Native.Nat.{ℕ, suc, _+_, _-_, _≤_}
 use native.Mathlib.Nat.{sub-zero}
 use native.Mathlib.Omega.{arith}
-use lib.Dec.{leb, ltb}
+use lib.Dec.{leb}
 use lib.ListN.{length, take, drop, length-take, length-drop, take-append-drop}
 use lib.Seq.{take-all, drop-drop}
 use borrow.Author.Tests.{le-leb, leb-true, leb-false}
 use Rattle.page.specs.Layout.{Entry}
-use Rattle.page.proofs.TestLaws.{and-both, or-neither}
-use Rattle.pack.specs.Pack.{entrySize, nodeSize}
+use Rattle.page.proofs.TestLaws.{and-both}
+use Rattle.pack.specs.Pack.{entrySize}
 use Rattle.split.specs.Split.{threshold, unsplit, cutHere, cutsFrom, butTwo, cutsOf, piecesFrom, piecesOf}
 
 -- from i each cut is 2 or more after the one before it, and so is the end

@@ -2,3 +2,4 @@
 pub mod Split
 pub mod Run
 pub mod Parted
+pub mod Write

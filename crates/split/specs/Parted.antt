@@ -7,7 +7,7 @@ use lib.Dec.{ltb}
 use lib.ListN.{length, drop}
 use Rattle.page.specs.declared.rules.Verdict.{Verdict}
 use Rattle.page.specs.declared.rules.Verdict.the-variants.{Sound, Breach}
-use Rattle.page.specs.Layout.{Entry, isLeaf, entriesOf}
+use Rattle.page.specs.Layout.{isLeaf, entriesOf}
 use Rattle.page.specs.PageRules.{lentCheckOf}
 use Rattle.pack.specs.Pack.{nodeSize}
 use Rattle.size.specs.Size.{nodeLimit}

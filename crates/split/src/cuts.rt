@@ -1,7 +1,7 @@
 // Where a block's node is cut.
 ghost use mathlib.Core.Path.{_≡_};
 ghost use mathlib.Core.Bool.{true};
-ghost use Prim.Native.Nat.{_+_, _<_, _≤_, min};
+ghost use Prim.Native.Nat.{_+_, _≤_, min};
 ghost use lib.ListN.{length};
 ghost use Rattle.field.specs.Sizes.{sizeAllowed};
 ghost use Rattle.field.specs.Run.{putAt};
@@ -39,7 +39,7 @@ pub fn half(p: usize) -> u64
 }
 
 // The sum of two numbers, counted no further than `cap`.
-fn add_capped(a: usize, b: usize, cap: usize) -> usize
+pub fn add_capped(a: usize, b: usize, cap: usize) -> usize
     requires { ⌜ a ≤ cap ⌝ }
     ensures { λ r. ⌜ r ≡ min (a + b) cap ⌝ }
 {
@@ -62,9 +62,9 @@ fn start_sum(b: &[u8], leaf: bool, c: usize, cap: usize) -> usize
 }
 
 // The next cut after the one at `c`, or after the start, of a run that ends before entry `end`; 0 if there is none.
-fn next_cut(b: &[u8], leaf: bool, t: usize, end: usize, c: usize) -> usize
+pub fn next_cut(b: &[u8], leaf: bool, t: usize, end: usize, c: usize) -> usize
     requires { ⌜ SoundBlock leaf true (now b) ⌝ }
-    requires { ⌜ (c ≤ end) × (end ≤ countOf (now b)) × (40 ≤ t) × (t ≤ 65536) ⌝ }
+    requires { ⌜ (c ≤ countOf (now b)) × (end ≤ countOf (now b)) × (40 ≤ t) × (t ≤ 65536) ⌝ }
     ensures { λ r. ⌜ r ≡ firstCut (cutsAfter leaf t (now (b .entry)) end c) ⌝ }
 {
     let past = t + 1;
@@ -86,10 +86,10 @@ fn next_cut(b: &[u8], leaf: bool, t: usize, end: usize, c: usize) -> usize
 }
 
 // How many cuts a run makes that ends before entry `end`.
-fn count_cuts(b: &[u8], leaf: bool, t: usize, end: usize) -> usize
+pub fn count_cuts(b: &[u8], leaf: bool, t: usize, end: usize) -> usize
     requires { ⌜ SoundBlock leaf true (now b) ⌝ }
     requires { ⌜ (end ≤ countOf (now b)) × (40 ≤ t) × (t ≤ 65536) ⌝ }
-    ensures { λ r. ⌜ r ≡ length (cutsAfter leaf t (now (b .entry)) end 0) ⌝ }
+    ensures { λ r. ⌜ (r ≡ length (cutsAfter leaf t (now (b .entry)) end 0)) × (r ≤ end) ⌝ }
 {
     let mut made = 0;
     let mut c = 0;
@@ -123,7 +123,7 @@ fn write_cuts(b: &[u8], leaf: bool, t: usize, end: usize, cuts: &mut [u64])
 }
 
 // Where the run over a block's entries ends, for a node of this size.
-fn run_end(b: &[u8], leaf: bool, p: usize, size: usize) -> usize
+pub fn run_end(b: &[u8], leaf: bool, p: usize, size: usize) -> usize
     requires { ⌜ SoundBlock leaf true (now b) ⌝ }
     requires { ⌜ (p ≤ 65536) × (size ≡ counted (nodeSize leaf (entriesOf leaf (now b)))) ⌝ }
     ensures { λ r. ⌜ r ≡ runEnd leaf p (now (b .entry)) ⌝ }

@@ -1,9 +1,7 @@
 -- `size::node_size` meets its contract: all entries are counted, from the size of a node without any. Assumes nothing.
 use mathlib.Core.Path.{ap, _∙_}
-use borrow.Author.Needs.{needs}
 use native.Mathlib.Omega.{arith}
 use denote.Ref.{now}
-use Rattle.page.specs.Layout.{entriesOf}
 use Rattle.size.specs.Size.{counted}
 use Rattle.size.proofs.SizeLaws.{size-all, size-entries}
 use Rattle.size.proofs.node_size.Statement.{statement}

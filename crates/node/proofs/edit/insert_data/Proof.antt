@@ -1,6 +1,6 @@
 -- `node::edit::insert_data` meets its contract: the check's refusal, 11 for a branch or a bad kind, and else the entry put in order. Assumes nothing.
 use mathlib.Core.Path.{_≡_, sym, _∙_}
-use mathlib.Core.Bool.{true, false}
+use mathlib.Core.Bool.{true}
 use borrow.Author.Needs.{needs}
 use borrow.Author.Tests.{not-true, not-false}
 use denote.Ref.{now}

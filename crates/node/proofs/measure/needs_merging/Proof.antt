@@ -1,5 +1,5 @@
 -- `node::measure::needs_merging` meets its contract: a quarter of a page is below the limit, so that a count that stopped there decides. Assumes nothing.
-use Prim.Native.Nat.{_/_, _≤_}
+use Prim.Native.Nat.{_/_}
 use mathlib.Core.Path.{_≡_, sym, ap, _∙_}
 use mathlib.Core.Bool.{Bool}
 use borrow.Author.Needs.{needs}

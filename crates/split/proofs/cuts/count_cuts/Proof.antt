@@ -35,7 +35,8 @@ returns c =
     let a = l .before .before .args in
     let z : _≡_ {A = ℕ} (c .before .next-cut .result) 0 = omega arith in
     let e = none-after (a .leaf) (a .t) (a .b .now) (a .end) (l .loop .c) (sym (c .before .next-cut .ensures) ∙ z) in
-    omega (arith, ap length e)
+    let n = ap length e in
+    (omega arith, omega arith)
 
 add-made : tie.Need-add-made Inv-loop μ-loop
 add-made c = let e = turn c in omega arith

@@ -1,7 +1,4 @@
 -- `cuts::run_end` meets its contract: the two tests are those of `unsplit`, on a size that is counted past every page size. Assumes nothing.
-use mathlib.Core.Path.{_≡_}
-use mathlib.Core.Bool.{_||_}
-use Prim.Native.Nat.{ℕ, _≤_, _<_}
 use borrow.Author.Needs.{needs}
 use native.Mathlib.Omega.{arith}
 use Rattle.split.proofs.RunLaws.{end-few, end-small, end-whole}

@@ -1,17 +1,15 @@
 -- `cuts::split_sound` meets its contract: the size decides first, then the room for as many cuts as were counted. Assumes nothing.
-use mathlib.Core.Path.{_≡_, refl, sym, ap, _∙_}
-use Prim.Native.Nat.{ℕ, _≤_}
+use mathlib.Core.Path.{_≡_, refl, ap, _∙_}
 use borrow.Author.Needs.{needs}
 use native.Mathlib.Omega.{arith}
 use lib.ListN.{length}
-use Rattle.page.specs.Layout.{countOf, entriesOf}
+use Rattle.page.specs.Layout.{entriesOf}
 use Rattle.pack.specs.Pack.{nodeSize}
 use Rattle.split.specs.declared.cuts.Parted.the-variants.{Cuts}
 use Rattle.split.specs.Split.{cutsOf}
-use Rattle.split.specs.Run.{cutsAfter}
+use Rattle.split.specs.Run.{cutsAfter, Ready}
 use Rattle.split.proofs.Halved.{size-range}
-use Rattle.split.proofs.RunLaws.{end-within}
-use Rattle.split.proofs.PartedLaws.{parted-large, parted-short, parted-made, cuts-code, put-made}
+use Rattle.split.proofs.PartedLaws.{parted-large, parted-short, parted-made, cuts-code, run-ready, put-made}
 use Rattle.split.proofs.cuts.split_sound.Statement.{statement}
 use Rattle.split.proofs.cuts.split_sound.Tie as tie
 
@@ -28,20 +26,15 @@ run-end-requires c κs =
     (s .pre .0, (omega arith, c .before .before .node-size .ensures))
 
 -- the run stays inside the block, and its threshold above 40
-bounds : (c : tie.After-run-end) →
+ready : (c : tie.After-run-end) →
+    let a = c .before .before .before .before .before .before .args in
+    Ready (a .leaf) (a .b .now) (a .p) (c .before .half .result) (c .run-end .result)
+ready c =
     let s = c .before .before .before .before .before .before in
-    let t = c .before .half .result in
-    (c .run-end .result ≤ countOf (s .args .b .now)) × (40 ≤ t) × (t ≤ 65536)
-bounds c =
-    let s = c .before .before .before .before .before .before in
-    let r = size-range (s .args .p) (s .pre .1) in
-    let w = end-within (s .args .leaf) (s .args .p) (s .args .b .now) in
-    let e = c .run-end .ensures in
-    let h = c .before .half .ensures in
-    (omega arith, omega arith, omega arith)
+    run-ready (s .args .leaf) (s .args .p) (s .args .b .now) (c .before .half .result) (c .run-end .result) (s .pre .0) (s .pre .1) (c .before .half .ensures) (c .run-end .ensures)
 
 count-cuts-requires : tie.Need-count-cuts-requires
-count-cuts-requires c κs = let s = c .before .before .before .before .before .before in (s .pre .0, bounds c)
+count-cuts-requires c κs = let r = ready c in (r .sound, (r .ending, r .low, r .high))
 
 -- the run's cuts are the node's
 same : (c : tie.After-run-end) →
@@ -57,16 +50,16 @@ returns-2 c =
     let a = q .before .before .before .before .before .before .args in
     let es = entriesOf (a .leaf) (a .b .now) in
     let n = ap length (same q) in
-    let m = c .before .count-cuts .ensures in
+    let m = c .before .count-cuts .ensures .0 in
     let k = q .before .before .before .node-size .ensures in
     (parted-short (nodeSize (a .leaf) es) (cutsOf (a .leaf) (a .p) es) (length (a .cuts .now)) (omega arith) (omega arith), refl)
 
 write-cuts-requires : tie.Need-write-cuts-requires
 write-cuts-requires c κs =
     let q = c .before .before .before in
-    let s = q .before .before .before .before .before .before in
-    let b = bounds q in
-    (s .pre .0, (b .0, b .1, b .2, omega arith))
+    let r = ready q in
+    let m = c .before .before .count-cuts .ensures .0 in
+    (r .sound, (r .ending, r .low, r .high, omega arith))
 
 returns-3 : tie.Need-returns-3
 returns-3 c =
@@ -75,10 +68,10 @@ returns-3 c =
     let a = q .before .before .before .before .before .before .args in
     let es = entriesOf (a .leaf) (a .b .now) in
     let n = ap length (same q) in
-    let m = w .before .before .before .count-cuts .ensures in
+    let m = w .before .before .before .count-cuts .ensures .0 in
     let k = q .before .before .before .node-size .ensures in (
       ap Cuts (m ∙ n) ∙ parted-made (nodeSize (a .leaf) es) (cutsOf (a .leaf) (a .p) es) (length (a .cuts .now)) (omega arith) (omega arith),
-      put-made _ (cutsOf (a .leaf) (a .p) es) (a .cuts .now) (same q) m (w .write-cuts .ensures),
+      put-made _ (cutsOf (a .leaf) (a .p) es) (a .cuts .now) (same q) (m ∙ n) (w .write-cuts .ensures),
     )
 
 pub split-sound-spec : {M : Type 1} → statement M

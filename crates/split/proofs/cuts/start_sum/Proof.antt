@@ -3,7 +3,6 @@ use mathlib.Core.Path.{_≡_}
 use Prim.Native.Nat.{ℕ}
 use borrow.Author.Needs.{needs}
 use native.Mathlib.Omega.{arith}
-use Rattle.split.specs.Run.{restart}
 use Rattle.split.proofs.RunLaws.{restart-after}
 use Rattle.split.proofs.cuts.start_sum.Statement.{statement}
 use Rattle.split.proofs.cuts.start_sum.Tie as tie

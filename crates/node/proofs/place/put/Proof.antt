@@ -1,11 +1,11 @@
--- `node::edit::put` meets its contract: the planned entries are those with the new one inserted. Assumes nothing.
+-- `node::place::put` meets its contract: the planned entries are those with the new one inserted. Assumes nothing.
 use borrow.Author.Needs.{needs}
 use native.Mathlib.Omega.{arith}
 use denote.Ref.{now}
 use Rattle.node.proofs.NodeLaws.{lent, lent-as}
 use Rattle.node.proofs.EditLaws.{same-node}
-use Rattle.node.proofs.edit.put.Statement.{statement}
-use Rattle.node.proofs.edit.put.Tie as tie
+use Rattle.node.proofs.place.put.Statement.{statement}
+use Rattle.node.proofs.place.put.Tie as tie
 
 id-requires : tie.Need-id-requires
 id-requires c κs = let s = c .before .before .before .before in lent (s .args .p) (now (s .args .b)) (s .pre .0) .long
