@@ -3,7 +3,6 @@ pub mod Halved
 pub mod RunLaws
 pub mod PartedLaws
 pub mod PieceLaws
-pub mod Examples
 pub mod PartLaws
 pub mod WriteLaws
 pub mod PagesLaws
