@@ -56,9 +56,10 @@ pub fn on_block(b: &[u8], p: usize) {
     holds(&out);
 }
 
-// Prints what edits answer to bad arguments, to a value above a node's limit and to an output one byte short.
+// Prints what is past the end, then what edits answer to bad arguments, to a value above a node's limit and to an output one byte short.
 pub fn edits(b: &[u8], p: usize, large: &[u8]) {
     held(entry(b, p, 2));
+    child(index_page(b, p, 2));
     let mut out = [165u8; 1040];
     insert_x(b, p, 2, b"yz", &mut out);
     insert_x(b, p, 1, b"yz", &mut out);
@@ -70,7 +71,7 @@ pub fn edits(b: &[u8], p: usize, large: &[u8]) {
     delete_at(b, p, 1, &mut short);
 }
 
-// Prints what making a new node answers to bad arguments, to a key above a node's limit and to an output one byte short.
+// Prints what making a new node, and then a branch of more, answers to bad arguments, to a key above a node's limit and to an output one byte short.
 pub fn new_nodes(large: &[u8]) {
     let mut short = [165u8; 1023];
     edited(b"new_leaf", new_leaf(1000, 5, &mut short));
@@ -79,5 +80,15 @@ pub fn new_nodes(large: &[u8]) {
     edited(b"new_branch", new_branch(1024, 6, b"m", 1, &mut short));
     edited(b"new_branch", new_branch(1024, 6, large, 7, &mut short));
     edited(b"new_branch", new_branch(1024, 6, b"m", 7, &mut short));
+    let mut branch = [165u8; 1024];
+    new_branch(1024, 6, b"m", 7, &mut branch);
+    edited(
+        b"insert_branch",
+        insert_branch(&branch, 1024, true, b"m", large, 9, &mut short),
+    );
+    edited(
+        b"insert_branch",
+        insert_branch(&branch, 1024, false, b"", large, 9, &mut short),
+    );
     holds(&short);
 }

@@ -42,6 +42,8 @@ fn no_room(b: &[u8], cuts: &mut [u64]) {
 // Prints what writing the leaf's pieces answers: page numbers that are wrong, an output one byte short, and pages 9 and 8.
 fn writes(leaf: &[u8]) {
     let mut out = [165u8; 2064];
+    let pages = [8u64; 1];
+    written(split_write(leaf, 1024, 32, &pages, &mut out));
     write_two(leaf, 1, 8, 9, &mut out);
     write_two(leaf, 32, 8, 8, &mut out);
     write_two(leaf, 32, 1, 8, &mut out);
