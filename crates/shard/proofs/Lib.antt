@@ -1,3 +1,2 @@
--- The laws of the answer buffer, and demand 3 in the words of the C functions.
-pub mod AnswerLaws
+-- Demand 3 in the words of the C functions.
 pub mod Promise

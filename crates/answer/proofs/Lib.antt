@@ -1,0 +1,2 @@
+-- The laws of the answer buffer.
+pub mod AnswerLaws

@@ -1,0 +1,24 @@
+-- 01, "Taken and left": what a C function returns, and what it leaves in the lent answer buffer, refused or not.
+-- Assumes nothing.
+use mathlib.Core.Bool.{Bool, cond}
+use mathlib.Core.List.{List, [], _∷_, _++_}
+use Prim.Native.Nat.{ℕ, _*_}
+use lib.Dec.{ltb}
+use lib.ListN.{length, drop}
+use Rattle.field.specs.Field.{bytesOf}
+
+-- u64 fields, one after the other
+unfoldable pub fields : List ℕ → List ℕ
+fields [] = []
+fields (x ∷ xs) = bytesOf 8 x ++ fields xs
+
+-- fewer bytes than so many fields take
+abbrev pub tooShort : ℕ → List ℕ → Bool
+tooShort count answer = ltb (length answer) (8 * count)
+
+-- is 1, and they stay; bytes past the fields stay
+unfoldable pub numberWith : ℕ → ℕ → List ℕ → ℕ
+numberWith count number answer = cond (tooShort count answer) 1 number
+
+unfoldable pub answerWith : List ℕ → List ℕ → List ℕ
+answerWith values answer = cond (tooShort (length values) answer) answer (fields values ++ drop (8 * length values) answer)

@@ -1,0 +1,2 @@
+-- What the contracts of `answer` cite.
+pub mod Answer
