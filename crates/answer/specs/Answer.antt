@@ -22,3 +22,16 @@ numberWith count number answer = cond (tooShort count answer) 1 number
 
 unfoldable pub answerWith : List ℕ → List ℕ → List ℕ
 answerWith values answer = cond (tooShort (length values) answer) answer (fields values ++ drop (8 * length values) answer)
+
+-- ---- the same of an answer's number and fields in one list
+abbrev pub toldNumber : List ℕ → List ℕ → ℕ
+toldNumber [] answer = 0
+toldNumber (number ∷ values) answer = numberWith (length values) number answer
+
+abbrev pub toldAnswer : List ℕ → List ℕ → List ℕ
+toldAnswer [] answer = answer
+toldAnswer (number ∷ values) answer = answerWith values answer
+
+-- what else is lent stays where the buffer has no room for so many fields, and is what the call leaves where it has
+abbrev pub lentWith : ℕ → List ℕ → List ℕ → List ℕ → List ℕ
+lentWith count answer stays left = cond (tooShort count answer) stays left
