@@ -2,3 +2,4 @@
 pub mod Edit
 pub mod Measure
 pub mod Neighbours
+pub mod Numbers

@@ -3,3 +3,4 @@ pub mod Split
 pub mod Run
 pub mod Parted
 pub mod Write
+pub mod Numbers

@@ -1,0 +1,33 @@
+-- 01, "Numbers given back": the number and the values of each answer on a lent single block, whose faults name page 0.
+-- Assumes nothing.
+use mathlib.Core.List.{List, [], _∷_}
+use Prim.Native.Nat.{ℕ, _-_}
+use Rattle.page.specs.Numbers.{one}
+use Rattle.node.specs.declared.edit.Edited.{Edited}
+use Rattle.node.specs.declared.edit.Edited.the-variants as edited
+use Rattle.node.specs.declared.edit.Deleted.{Deleted}
+use Rattle.node.specs.declared.edit.Deleted.the-variants as deleted
+use Rattle.node.specs.declared.measure.Measure.{Measure}
+use Rattle.node.specs.declared.measure.Measure.the-variants as measure
+use Rattle.node.specs.declared.measure.Merging.{Merging}
+use Rattle.node.specs.declared.measure.Merging.the-variants as merging
+
+-- an edit: number, bytes written, page, element
+abbrev pub editedFields : Edited → List ℕ
+editedFields (edited.Written bytes) = 0 ∷ bytes ∷ 0 ∷ 0 ∷ []
+editedFields (edited.Refused number element) = number ∷ 0 ∷ 0 ∷ element ∷ []
+
+-- `delete`: number, bytes written, kind, key place, key length, value place, value length, page, element
+abbrev pub deletedFields : Deleted → List ℕ
+deletedFields (deleted.Removed bytes e) =
+    0 ∷ bytes ∷ e .kind ∷ e .key ∷ (e .value - e .key) ∷ e .value ∷ (e .end - e .value) ∷ 0 ∷ 0 ∷ []
+deletedFields (deleted.Refused number element) = number ∷ 0 ∷ 0 ∷ 0 ∷ 0 ∷ 0 ∷ 0 ∷ 0 ∷ element ∷ []
+
+-- `size` and `needs_merging` of one block: number, size, pages needed, merging wanted, page, element
+abbrev pub unsizedFields : ℕ → ℕ → List ℕ
+unsizedFields number element = number ∷ 0 ∷ 0 ∷ 0 ∷ 0 ∷ element ∷ []
+
+abbrev pub sizedFields : Measure → Merging → List ℕ
+sizedFields (measure.Refused number element) m = unsizedFields number element
+sizedFields (measure.Bytes size pages) (merging.Refused number element) = unsizedFields number element
+sizedFields (measure.Bytes size pages) (merging.Wanted wanted) = 0 ∷ size ∷ pages ∷ one wanted ∷ 0 ∷ 0 ∷ []

@@ -1,0 +1,18 @@
+-- 01, "Numbers given back": the number and the values of each answer on a lent single block, whose faults name page 0.
+-- Assumes nothing.
+use mathlib.Core.List.{List, [], _∷_}
+use Prim.Native.Nat.{ℕ}
+use Rattle.split.specs.declared.cuts.Parted.{Parted}
+use Rattle.split.specs.declared.cuts.Parted.the-variants as parted
+use Rattle.split.specs.declared.write.Written.{Written}
+use Rattle.split.specs.declared.write.Written.the-variants as written
+
+-- `split`: number, cuts made, page, element
+abbrev pub partedFields : Parted → List ℕ
+partedFields (parted.Cuts made) = 0 ∷ made ∷ 0 ∷ 0 ∷ []
+partedFields (parted.Refused number element) = number ∷ 0 ∷ 0 ∷ element ∷ []
+
+-- `split_write`: number, bytes written, pieces, page, element
+abbrev pub writtenFields : Written → List ℕ
+writtenFields (written.Pieces bytes pieces) = 0 ∷ bytes ∷ pieces ∷ 0 ∷ 0 ∷ []
+writtenFields (written.Refused number element) = number ∷ 0 ∷ 0 ∷ 0 ∷ element ∷ []
