@@ -13,7 +13,7 @@ use lib.Bits.{bitOr}
 use lib.ListN.{length, getD, set, replicate, length-replicate, length-set}
 use lib.Seq.{getD-set-same, getD-set-other}
 use Rattle.field.proofs.BitLaws.{tri, digit-or, digit-pow-same, digit-pow-other}
-use Rattle.field.specs.Marks.{mark, Marked, countBelow, count, withMark, noMarks}
+use Rattle.field.specs.Marks.{markedIn, markIn, mark, Marked, isMarked, countBelow, count, withMark, noMarks}
 
 -- ---- the ones of a word are its marks
 
@@ -118,6 +118,16 @@ module _ (m : List ℕ) (p : ℕ) (long : length m ≡ 512) (small : p < 32768) 
       back (inr h) = ⊎-elim (λ l. with-other q (λ e. omega arith) ∙ h)
           (⊎-elim (λ e. ap (mark (withMark m p)) e ∙ with-same) (λ l. with-other q (λ e. omega arith) ∙ h)) (tri q p)
 
+-- the word of page p set: the set with p in it
+pub word-set : (m : List ℕ) (p at : ℕ) → at ≡ p / 64 → set m at (markIn (getD m at 0) p) ≡ withMark m p
+unfolding withMark
+word-set m p at e = rw e
+
+-- page p's word tells whether it is marked
+pub word-told : (m : List ℕ) (p at : ℕ) → at ≡ p / 64 → markedIn (getD m at 0) p ≡ isMarked m p
+unfolding mark
+word-told m p at e = rw e
+
 pub length-with : (m : List ℕ) (p : ℕ) → length (withMark m p) ≡ length m
 unfolding withMark
 length-with m p = simp length-set
@@ -168,6 +178,10 @@ count-zeros : (n k : ℕ) → countBelow (replicate n 0) k ≡ 0
 unfolding countBelow
 count-zeros n zero = refl
 count-zeros n (suc k) = omega (arith, mark-zeros n k, count-zeros n k)
+
+pub word-none : (i : ℕ) → getD noMarks i 0 ≡ 0
+unfolding noMarks
+word-none i = getD-zeros 512 i
 
 pub mark-none : (k : ℕ) → mark noMarks k ≡ 0
 unfolding noMarks

@@ -8,6 +8,14 @@ use lib.Dec.{eqb}
 use lib.Bits.{bitOr}
 use lib.ListN.{getD, set, replicate}
 
+-- page k is marked in the word that its mark stands in: digit k % 64 is 1
+abbrev pub markedIn : ℕ → ℕ → Bool
+markedIn w k = eqb (w / 2 ^ (k % 64) % 2) 1
+
+-- that word with page k marked
+abbrev pub markIn : ℕ → ℕ → ℕ
+markIn w k = bitOr w (2 ^ (k % 64))
+
 -- page k's mark, 0 or 1: digit k % 64 of word k / 64
 unfoldable pub mark : List ℕ → ℕ → ℕ
 mark m k = getD m (k / 64) 0 / 2 ^ (k % 64) % 2
@@ -31,7 +39,7 @@ count m = countBelow m 32768
 
 -- the set with page p in it
 unfoldable pub withMark : List ℕ → ℕ → List ℕ
-withMark m p = set m (p / 64) (bitOr (getD m (p / 64) 0) (2 ^ (p % 64)))
+withMark m p = set m (p / 64) (markIn (getD m (p / 64) 0) p)
 
 -- the set with no page in it
 unfoldable pub noMarks : List ℕ

@@ -1,7 +1,6 @@
-// A set of page numbers below 32,768, by value.
+// A set of page numbers below 32,768, by value: the mark of a page stands in word page / 64.
 ghost use mathlib.Core.Path.{_≡_};
-ghost use Prim.Native.Nat.{_<_};
-ghost use Rattle.field.specs.Marks.{isMarked, withMark, noMarks, count};
+ghost use Rattle.field.specs.Marks.{markedIn, markIn, noMarks, count};
 
 // The set with no page in it.
 pub fn no_marks() -> [u64; 512]
@@ -10,24 +9,18 @@ pub fn no_marks() -> [u64; 512]
     [0u64; 512]
 }
 
-// Whether the page is marked.
-pub fn is_marked(marks: [u64; 512], page: u64) -> bool
-    requires { ⌜ page < 32768 ⌝ }
-    ensures { λ r. ⌜ r ≡ isMarked marks page ⌝ }
+// Whether the page is marked, by the word that its mark stands in.
+pub fn is_marked(word: u64, page: u64) -> bool
+    ensures { λ r. ⌜ r ≡ markedIn word page ⌝ }
 {
-    let at = (page / 64) as usize;
-    (marks[at] >> (page % 64)) % 2 == 1
+    (word >> (page % 64)) % 2 == 1
 }
 
-// The set with the page in it.
-pub fn with_mark(marks: [u64; 512], page: u64) -> [u64; 512]
-    requires { ⌜ page < 32768 ⌝ }
-    ensures { λ r. ⌜ r ≡ withMark marks page ⌝ }
+// That word with the page marked.
+pub fn with_mark(word: u64, page: u64) -> u64
+    ensures { λ r. ⌜ r ≡ markIn word page ⌝ }
 {
-    let mut out = marks;
-    let at = (page / 64) as usize;
-    out[at] = out[at] | (1u64 << (page % 64));
-    out
+    word | (1u64 << (page % 64))
 }
 
 // How many pages are marked: the ones of all words.

@@ -22,7 +22,7 @@ use Rattle.tree.specs.declared.range.Page.the-variants.{Branch, Leaf, Br
 use Rattle.tree.specs.View.{row, childItem, valueItem, viewOf}
 use Rattle.tree.specs.Sound.{SoundSizes}
 use Rattle.tree.specs.Judge.{freeHeaderBad, idAt, idOutside, idNotAbove, idMarked, idsOf, freelistOf}
-use Rattle.tree.specs.Walk.{keyOut, unlessOut, pageOf}
+use Rattle.tree.specs.Walk.{keyOut, unlessOut, pageOf, Branching}
 use Rattle.tree.proofs.ViewLaws.{length-row, view-branch, view-leaf, bad-header, leaf-bad, branch-bad, leaf-good, branch-good}
 use Rattle.tree.proofs.WalkLaws.{optionOf, out-row, page-branch, page-leaf}
 use Rattle.tree.proofs.ViewFrame.{header-ends}
@@ -116,24 +116,16 @@ module _ (image : List ℕ) (P N f : ℕ) (vs : List ℕ) where
   list-ids e m h = rw (e, m, h)
 
 -- ---- what a page's verdict says of its block
-pub record BranchPage (image : List ℕ) (P N q : ℕ) (top : Bool) (n : ℕ) : Type 0 where
-  pub ends : q + overflowOf (drop (q * P) image) < N
-  pub sound : SoundBlock false false (blockOf image P q)
-  pub counted : n ≡ countOf (blockOf image P q)
-  pub view : viewOf image P N q top ≡ branch (row (childItem (blockOf image P q)) n 0)
-
 module _ (image : List ℕ) (P N q : ℕ) (top : Bool) (low : Key) (high : Option Key) (n : ℕ) where
-  pub told-branch : pageOf (viewOf image P N q top) low high ≡ Branch n → BranchPage image P N q top n
+  pub told-branch : pageOf (viewOf image P N q top) low high ≡ Branch n
+      → Branching image P N q n × (viewOf image P N q top ≡ branch (row (childItem (blockOf image P q)) n 0))
   told-branch e =
       let x = page-branch (viewOf image P N q top) low high n e in
       let b = view-branch image P N q top (x .0) (x .1) in
-      let c : n ≡ countOf (blockOf image P q) = sym (x .2) ∙ ap length (b .items) ∙ length-row (childItem (blockOf image P q)) (countOf (blockOf image P q)) 0 in
-      record {
-        ends = header-ends N q (drop (q * P) image) (b .header);
-        sound = b .sound;
-        counted = c;
-        view = x .1 ∙ ap branch (b .items ∙ ap (λ (k : ℕ). row (childItem (blockOf image P q)) k 0) (sym c));
-      }
+      let c : n ≡ countOf (blockOf image P q) = sym (x .2) ∙ ap length (b .items) ∙ length-row (childItem (blockOf image P q)) (countOf (blockOf image P q)) 0 in (
+        record { ends = header-ends N q (drop (q * P) image) (b .header); sound = b .sound; counted = c },
+        x .1 ∙ ap branch (b .items ∙ ap (λ (k : ℕ). row (childItem (blockOf image P q)) k 0) (sym c)),
+      )
 
   -- a leaf has fewer entries than the image has bytes
   pub few-entries : SoundSizes image P N → pageOf (viewOf image P N q top) low high ≡ Leaf n → n ≤ 2147483648

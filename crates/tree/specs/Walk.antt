@@ -1,20 +1,22 @@
 -- What the judge's walk of a subtree answers: one page's own verdict, the words that mark the pages visited, and the walk's.
 -- Assumes nothing.
 use mathlib.Core.Path.{_≡_}
-use mathlib.Core.Bool.{Bool, true, false, not}
+use mathlib.Core.Bool.{Bool, true, false, not, cond}
 use mathlib.Core.List.{List}
 use mathlib.Core.Option.{Option, none, some}
-use Prim.Native.Nat.{ℕ, _<_}
-use lib.ListN.{length}
+use Prim.Native.Nat.{ℕ, zero, suc, _+_, _*_, _<_}
+use lib.ListN.{length, drop}
 use Rattle.field.specs.Marks.{isMarked, count}
-use Rattle.page.specs.Layout.{keyOf}
-use Rattle.walk.specs.Tree.{Key, View, bad, branch, leaf, keys, inRange, memb, firstOut, pass, fault, Verdict as Walk}
+use Rattle.page.specs.Layout.{keyOf, countOf, overflowOf}
+use Rattle.page.specs.PageRules.{blockOf, SoundBlock}
+use Rattle.walk.specs.Tree.{Key, View, bad, branch, leaf, keys, inRange, memb, inside, firstOut, pass, fault, walkAll, walk, Verdict as Walk}
 use Rattle.tree.specs.declared.lookup.Value.{Value}
 use Rattle.tree.specs.declared.range.Page.{Page}
 use Rattle.tree.specs.declared.range.Page.the-variants.{Branch, Leaf, Breach}
 use Rattle.tree.specs.declared.judge.Walked.{Walked}
 use Rattle.tree.specs.declared.judge.Outcome.the-variants.{Passed, Broken}
 use Rattle.tree.specs.Lookup.{faultAt}
+use Rattle.tree.specs.View.{row, childItem, viewOf}
 
 -- the upper end of a range, which may be missing
 abbrev pub upperOf : Bool → Key → Option Key
@@ -35,6 +37,21 @@ unfoldable pub pageOf : View Value → Key → Option Key → Page
 pageOf (bad number element) low high = Breach number element
 pageOf (branch cs) low high = unlessOut (firstOut low high (keys cs) 0) (Branch (length cs))
 pageOf (leaf es) low high = unlessOut (firstOut low high (keys es) 0) (Leaf (length es))
+
+-- the verdict on a page that the walk meets with `left` levels to spend, reached before or not: rules 1 to 3 come before its own
+unfoldable pub metOf : ℕ → (ℕ → Bool → View Value) → ℕ → Bool → ℕ → Key → Option Key → Bool → Page
+metOf N view zero top q low high before = Breach 9 0
+metOf N view (suc d) top q low high before = cond (inside N q) (cond before (Breach 8 0) (pageOf (view q top) low high)) (Breach 2 0)
+
+-- page q is a branch of c children, whose block lies within N pages and keeps the rules
+pub record Branching (image : List ℕ) (P N q c : ℕ) : Type 0 where
+  pub ends : q + overflowOf (drop (q * P) image) < N
+  pub sound : SoundBlock false false (blockOf image P q)
+  pub counted : c ≡ countOf (blockOf image P q)
+
+-- the walk of its children, with `left` levels to spend
+abbrev pub childrenOf : List ℕ → ℕ → ℕ → ℕ → ℕ → ℕ → Option Key → List ℕ → Walk
+childrenOf image P N left q c high vs = walkAll (walk N (viewOf image P N) left false) (row (childItem (blockOf image P q)) c 0) high 0 vs
 
 -- the words mark exactly these pages, each once
 pub record Marks (m vs : List ℕ) : Type 0 where

@@ -86,7 +86,8 @@ fn first_marked(b: &[u8], c: usize, marks: [u64; 512]) -> Verdict
 {
     let mut i = 0;
     while i < c {
-        if is_marked(marks, id_at(b, i) as u64) {
+        let page = id_at(b, i);
+        if is_marked(marks[page / 64], page as u64) {
             return Verdict::Breach(8, i);
         }
         i += 1;
@@ -113,7 +114,7 @@ fn check_ids(b: &[u8], n: usize, marks: [u64; 512]) -> Verdict
 }
 
 // The refusal with this number, page and element.
-fn refused(number: u64, page: usize, element: usize) -> Judged
+pub fn refused(number: u64, page: usize, element: usize) -> Judged
     ensures { λ r. ⌜ r ≡ Judged.Refused (faultAt number page element) ⌝ }
 {
     Judged::Refused(Fault {
@@ -138,14 +139,17 @@ pub fn after_tree(
     if !inside(n, f) {
         return refused(2, f, 0);
     }
-    if is_marked(marks, f as u64) {
+    let at = f / 64;
+    let word = marks[at];
+    if is_marked(word, f as u64) {
         return refused(8, f, 0);
     }
     if free_header_bad(from_page(image, p, n, f), n, f) {
         return refused(3, f, 0);
     }
     let b = block(image, p, n, f);
-    let marked = with_mark(marks, f as u64);
+    let mut marked = marks;
+    marked[at] = with_mark(word, f as u64);
     match check_ids(b, n, marked) {
         Verdict::Breach(number, i) => refused(number, f, i),
         Verdict::Sound => Judged::Sound(entries, count_marks(marked) as usize),

@@ -1,20 +1,20 @@
 // The judge: the walk of a tree, then the freelist page.
 ghost use mathlib.Core.Path.{_≡_};
-ghost use mathlib.Core.Bool.{true, false, cond, _||_};
-ghost use mathlib.Core.List.{List};
+ghost use mathlib.Core.Bool.{false, cond, _||_};
+ghost use mathlib.Core.List.{List, [], _∷_};
+ghost use mathlib.Core.Option.{none};
 ghost use Prim.Native.Nat.{ℕ, _+_, _*_, _≤_, _<_};
 ghost use lib.Dec.{ltb};
-ghost use lib.ListN.{length};
-ghost use Rattle.field.specs.Marks.{count as countMarked};
+ghost use Rattle.field.specs.Marks.{markedIn, withMark, noMarks, count as countMarked};
 ghost use Rattle.page.specs.Layout.{keyOf, countOf};
 ghost use Rattle.page.specs.PageRules.{SoundBlock};
-ghost use Rattle.walk.specs.Tree.{walk as walkOf};
 ghost use Rattle.tree.specs.Sound.{SoundSizes};
 ghost use Rattle.tree.specs.View.{viewOf};
 ghost use Rattle.tree.specs.Lookup.{faultAt};
-ghost use Rattle.tree.specs.Judge.{judgeOf};
-ghost use Rattle.tree.specs.Walk.{upperOf, Marks, Says};
+ghost use Rattle.tree.specs.Judge.{judgeOf, afterTree};
+ghost use Rattle.tree.specs.Walk.{upperOf, metOf, Branching, childrenOf, Marks, Says};
 use super::freelist::after_tree;
+use super::freelist::refused;
 use super::image::block;
 use super::image::geometry_bad;
 use super::image::inside;
@@ -94,69 +94,123 @@ fn has_upper(i: usize, c: usize, bounded: bool) -> bool
     bounded
 }
 
-// The walk of the subtree of page `q`, with `left` levels to spend, its range, and the pages marked before it.
-fn walk<'a>(
-    image: &'a [u8],
+// The verdict on page `q` when the walk meets it with `left` levels to spend: rules 1 to 8, by the word that its mark stands in.
+fn meet(
+    image: &[u8],
     p: usize,
     n: usize,
     left: usize,
     top: bool,
     q: usize,
-    low: &'a [u8],
+    low: &[u8],
+    high: &[u8],
+    bounded: bool,
+    word: u64,
+) -> Page
+    requires { ⌜ SoundSizes (now image) p n ⌝ }
+    ensures { λ r. ⌜ r ≡ metOf n (viewOf (now (image .entry)) p n) left top q (now (low .entry)) (upperOf bounded (now (high .entry))) (markedIn word q) ⌝ }
+{
+    if left == 0 {
+        return Page::Breach(9, 0);
+    }
+    if !inside(n, q) {
+        return Page::Breach(2, 0);
+    }
+    if is_marked(word, q as u64) {
+        return Page::Breach(8, 0);
+    }
+    judge_page(image, p, n, q, top, low, high, bounded)
+}
+
+// The walk of the `c` children of branch `q`, with `left` levels to spend, its upper end, and the pages marked before them.
+fn walk<'a>(
+    image: &'a [u8],
+    p: usize,
+    n: usize,
+    left: usize,
+    q: usize,
+    c: usize,
     high: &'a [u8],
     bounded: bool,
     marks: [u64; 512],
 ) -> Walked
-    requires { ⌜ SoundSizes (now image) p n ⌝ }
-    ensures { λ r. ⌜ ((vs : List ℕ) → Marks marks vs
-        → Says r (walkOf n (viewOf (now (image .entry)) p n) left top q (now (low .entry)) (upperOf bounded (now (high .entry))) vs)) ⌝ }
+    requires { ⌜ SoundSizes (now image) p n × (q < n) × Branching (now image) p n q c ⌝ }
+    ensures { λ r. ⌜ ((vs : List ℕ) → Marks marks vs → Says r (childrenOf (now (image .entry)) p n left q c (upperOf bounded (now (high .entry))) vs)) ⌝ }
     ensures { λ r. ⌜ ((m : ℕ) → r .outcome ≡ Outcome.Passed m → m + 2147483648 * countMarked marks ≤ 2147483648 * countMarked (r .marks)) ⌝ }
 {
-    if left == 0 {
-        return broken(marks, 9, q, 0);
-    }
-    if !inside(n, q) {
-        return broken(marks, 2, q, 0);
-    }
-    if is_marked(marks, q as u64) {
-        return broken(marks, 8, q, 0);
-    }
-    let mut seen = with_mark(marks, q as u64);
-    match judge_page(image, p, n, q, top, low, high, bounded) {
-        Page::Breach(number, i) => broken(seen, number, q, i),
-        Page::Leaf(entries) => passed(seen, entries),
-        Page::Branch(c) => {
-            let b = block(image, p, n, q);
-            let mut entries = 0;
-            let mut i = 0;
-            while i < c {
-                let w = walk(
-                    image,
-                    p,
-                    n,
-                    left - 1,
-                    false,
-                    child(b, i),
-                    key(b, false, i),
-                    upper(b, i, c, high),
-                    has_upper(i, c, bounded),
-                    seen,
-                );
+    let b = block(image, p, n, q);
+    let mut seen = marks;
+    let mut entries = 0;
+    let mut i = 0;
+    while i < c {
+        let k = child(b, i);
+        let end = upper(b, i, c, high);
+        let ends = has_upper(i, c, bounded);
+        let at = k / 64 % 512;
+        let word = seen[at];
+        let met = meet(
+            image,
+            p,
+            n,
+            left,
+            false,
+            k,
+            key(b, false, i),
+            end,
+            ends,
+            word,
+        );
+        seen[at] = with_mark(word, k as u64);
+        match met {
+            Page::Breach(number, j) => {
+                return broken(seen, number, k, j);
+            }
+            Page::Leaf(m) => {
+                entries += m;
+                i += 1;
+            }
+            Page::Branch(m) => {
+                let w = walk(image, p, n, left - 1, k, m, end, ends, seen);
                 let next = w.marks;
                 let outcome = w.outcome;
                 match outcome {
                     Outcome::Broken(f) => {
                         return broken(next, f.number, f.page, f.element);
                     }
-                    Outcome::Passed(m) => {
-                        entries += m;
+                    Outcome::Passed(all) => {
+                        entries += all;
                         seen = next;
                         i += 1;
                     }
                 }
             }
-            passed(seen, entries)
         }
+    }
+    passed(seen, entries)
+}
+
+// The set with one page in it.
+fn only(q: usize) -> [u64; 512]
+    requires { ⌜ q < 32768 ⌝ }
+    ensures { λ r. ⌜ r ≡ withMark noMarks q ⌝ }
+{
+    let mut marks = no_marks();
+    marks[q / 64] = with_mark(0, q as u64);
+    marks
+}
+
+// The judge's answer where the root is a branch with `c` children.
+fn judge_branch(image: &[u8], p: usize, n: usize, root: usize, c: usize, f: usize) -> Judged
+    requires { ⌜ SoundSizes (now image) p n × (root < n) × Branching (now image) p n root c ⌝ }
+    ensures { λ r. ⌜ r ≡ afterTree (now (image .entry)) p n f (childrenOf (now (image .entry)) p n 15 root c none (root ∷ [])) ⌝ }
+{
+    let none = &image[0..0];
+    let w = walk(image, p, n, LEVELS - 1, root, c, none, false, only(root));
+    let marks = w.marks;
+    let outcome = w.outcome;
+    match outcome {
+        Outcome::Broken(fault) => Judged::Refused(fault),
+        Outcome::Passed(entries) => after_tree(image, p, n, f, entries, marks),
     }
 }
 
@@ -165,19 +219,12 @@ pub fn judge(image: &[u8], p: usize, n: usize, root: usize, f: usize) -> Judged
     ensures { λ r. ⌜ r ≡ judgeOf (now (image .entry)) p n root f ⌝ }
 {
     if geometry_bad(image, p, n) {
-        return Judged::Refused(Fault {
-            number: 1,
-            page: 0,
-            element: 0,
-        });
+        return refused(1, 0, 0);
     }
     let low = &image[0..0];
-    let unmarked = no_marks();
-    let w = walk(image, p, n, LEVELS, true, root, low, low, false, unmarked);
-    let marks = w.marks;
-    let outcome = w.outcome;
-    match outcome {
-        Outcome::Broken(fault) => Judged::Refused(fault),
-        Outcome::Passed(entries) => after_tree(image, p, n, f, entries, marks),
+    match meet(image, p, n, LEVELS, true, root, low, low, false, 0) {
+        Page::Breach(number, i) => refused(number, root, i),
+        Page::Leaf(entries) => after_tree(image, p, n, f, entries, only(root)),
+        Page::Branch(c) => judge_branch(image, p, n, root, c, f),
     }
 }

@@ -1,13 +1,15 @@
 -- `tree::freelist::after_tree` meets its contract, rule by rule, for any pages that the words mark. Assumes nothing.
-use Prim.Native.Nat.{ℕ, _*_, _<_}
-use mathlib.Core.Path.{_≡_, sym, ap, _∙_}
+use Prim.Native.Nat.{ℕ, _*_, _/_, _<_}
+use mathlib.Core.Path.{_≡_, refl, sym, ap, _∙_}
 use mathlib.Core.Bool.{true}
 use mathlib.Core.List.{List, _∷_}
 use borrow.Author.Needs.{needs}
 use borrow.Author.Tests.{not-true, not-false}
 use native.Mathlib.Omega.{arith}
 use denote.Ref.{now}
-use lib.ListN.{length, drop}
+use lib.ListN.{length, drop, set}
+use Rattle.field.specs.Marks.{isMarked}
+use Rattle.field.proofs.MarkLaws.{word-told, word-set}
 use Rattle.page.specs.declared.rules.Verdict.{Verdict}
 use Rattle.walk.specs.Tree.{inside, memb}
 use Rattle.tree.specs.declared.judge.Judged.the-variants.{Sound}
@@ -35,11 +37,15 @@ small c =
     let l = inside-parts (s .args .n) (s .args .f) (within c) .1 in
     (l, omega (arith, s .pre .mostCount))
 
-is-marked-requires : tie.Need-is-marked-requires
-is-marked-requires c κs = small c .1
+array-read-word : tie.Need-array-read-word
+array-read-word c = let l = small c .1 in search needs
 
-marked : (c : tie.After-is-marked) (vs : List ℕ) → Marks (c .before .before .before .before .args .marks) vs → c .is-marked .result ≡ memb (c .before .before .before .before .args .f) vs
-marked c vs m = c .is-marked .ensures ∙ m .each (c .before .before .before .before .args .f) (small (c .before) .1)
+-- what the page's word tells
+told : (c : tie.After-is-marked) → let a = c .before .before .before .before .args in c .is-marked .result ≡ isMarked (a .t6) (a .f)
+told c = let a = c .before .before .before .before .args in c .is-marked .ensures ∙ word-told (a .t6) (a .f) (a .f / 64) refl
+
+marked : (c : tie.After-is-marked) (vs : List ℕ) → Marks (c .before .before .before .before .args .t6) vs → c .is-marked .result ≡ memb (c .before .before .before .before .args .f) vs
+marked c vs m = told c ∙ m .each (c .before .before .before .before .args .f) (small (c .before) .1)
 
 returns-2 : tie.Need-returns-2
 returns-2 c vs m =
@@ -79,8 +85,8 @@ block-requires c κs =
     let s = h .before .before .before .before .before .before .before in
     (s .pre, small (h .before .before .before .before) .0, free-ends (s .args .n) (s .args .f) (drop (s .args .f * s .args .p) (now (s .args .image))) (sym (header h) ∙ c .if3 .left))
 
-with-mark-requires : tie.Need-with-mark-requires
-with-mark-requires c κs = small (c .before .before .before .before .before .before) .1
+array-write-marked : tie.Need-array-write-marked
+array-write-marked c = let l = small (c .before .before .before .before .before .before .before) .1 in search needs
 
 check-ids-requires : tie.Need-check-ids-requires
 check-ids-requires c κs =
@@ -89,23 +95,26 @@ check-ids-requires c κs =
     (omega (arith, s .pre .leastSize), s .pre .mostCount)
 
 -- there are 512 words of marks
-long : (c : tie.Start) → length (c .args .marks) ≡ 512
+long : (c : tie.Start) → length (c .args .t6) ≡ 512
 long c = search needs
 
 -- the marks with the freelist's page, and what was found of its ids
 listed : (c : tie.After-check-ids) (vs : List ℕ)
-    → let s = c .before .before .before .before .before .before .before .before .before .before .before in
-    Marks (s .args .marks) vs
-    → Marks (c .before .with-mark .result) (s .args .f ∷ vs) × (freelistOf (now (s .args .image)) (s .args .p) (s .args .n) (s .args .f) vs ≡ c .check-ids .result)
+    → let w = c .before in
+    let s = w .before .before .before .before .before .before .before .before .before .before in
+    Marks (s .args .t6) vs
+    → Marks (set (s .args .t6) (s .args .f / 64) (w .with-mark .result)) (s .args .f ∷ vs)
+    × (freelistOf (now (s .args .image)) (s .args .p) (s .args .n) (s .args .f) vs ≡ c .check-ids .result)
 listed c vs m =
     let w = c .before in
     let h = w .before .before .before in
     let k = h .before .before .before in
     let s = k .before .before .before .before in
     let a = s .args in
+    let free = sym (told k) ∙ h .before .before .if2 .left in
     let fresh = sym (marked k vs m) ∙ h .before .before .if2 .left in
-    let ms = marks-with (a .marks) vs (a .f) m (long s) (small (k .before) .1) (sym (k .is-marked .ensures) ∙ h .before .before .if2 .left) in
-    let ns : Marks (w .with-mark .result) (a .f ∷ vs) = rw (w .with-mark .ensures) ms in (
+    let ms = marks-with (a .t6) vs (a .f) m (long s) (small (k .before) .1) free in
+    let ns : Marks (set (a .t6) (a .f / 64) (w .with-mark .result)) (a .f ∷ vs) = rw (w .with-mark .ensures, word-set (a .t6) (a .f) (a .f / 64) refl) ms in (
       ns,
       list-ids (now (a .image)) (a .p) (a .n) (a .f) vs (within (k .before)) fresh (sym (header h) ∙ w .before .before .if3 .left)
           ∙ ap (idsOf (a .n) (a .f ∷ vs)) (sym (w .before .block .ensures .0))
@@ -130,8 +139,8 @@ pub after-tree-spec : {M : Type 1} → statement M
 after-tree-spec =
     tie.close
     (tie.spec
-    (λ c κs. search needs) (λ c κs. search needs) returns is-marked-requires
+    (λ c κs. search needs) (λ c κs. search needs) returns (λ c. search needs) array-read-word (λ c κs. search needs)
     (λ c κs. search needs) returns-2 from-page-requires free-header-bad-requires
-    (λ c κs. search needs) returns-3 block-requires with-mark-requires check-ids-requires
+    (λ c κs. search needs) returns-3 block-requires (λ c κs. search needs) (λ c. search needs) array-write-marked check-ids-requires
     (λ c. search needs) (λ c κs. search needs) (λ c. search needs) (λ c κs. search needs)
     returns-4 returns-5)

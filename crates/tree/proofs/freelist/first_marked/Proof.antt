@@ -1,13 +1,14 @@
 -- `tree::freelist::first_marked` meets its contract. The loop's invariant: for any pages that the words mark, the first bad one of all is the
 -- first of those from `i` on. Assumes nothing.
-use Prim.Native.Nat.{ℕ, _-_, _≤_}
-use mathlib.Core.Path.{_≡_, sym, ap, _∙_}
+use Prim.Native.Nat.{ℕ, _-_, _≤_, _<_}
+use mathlib.Core.Path.{_≡_, refl, sym, ap, _∙_}
 use mathlib.Core.List.{List}
 use borrow.Author.Needs.{needs}
 use native.Mathlib.Nat.{sub-zero}
 use native.Mathlib.Omega.{arith}
 use denote.Ref.{now}
 use Rattle.field.specs.Marks.{isMarked}
+use Rattle.field.proofs.MarkLaws.{word-told}
 use Rattle.page.specs.PageRules.{firstBad}
 use Rattle.page.proofs.RuleLaws.{bad-skip, bad-here, bad-none}
 use Rattle.tree.specs.Judge.{idAt, idMarked}
@@ -25,19 +26,24 @@ abbrev μ-loop : tie.MeasureT-loop
 loop-holds : tie.Need-loop-holds Inv-loop μ-loop
 loop-holds c = (omega arith, λ vs m. rw sub-zero)
 
-is-marked-requires : tie.Need-is-marked-requires Inv-loop μ-loop
-is-marked-requires c κs =
+-- an id is a page's number
+small : (c : tie.After-id-at Inv-loop μ-loop) → c .id-at .result < 32768
+small c =
     let s = c .before .before .before .before in
     let e = c .id-at .ensures in
     omega (arith, s .pre .1 (c .before .before .loop .i) (omega arith))
 
+array-read-is-marked : tie.Need-array-read-is-marked Inv-loop μ-loop
+array-read-is-marked c = let l = small c in search needs
+
 tested : (c : tie.After-is-marked Inv-loop μ-loop)
     → let s = c .before .before .before .before .before in
-    (vs : List ℕ) → Marks (s .args .marks) vs → c .is-marked .result ≡ idMarked vs (now (s .args .b)) (c .before .before .before .loop .i)
+    (vs : List ℕ) → Marks (s .args .t3) vs → c .is-marked .result ≡ idMarked vs (now (s .args .b)) (c .before .before .before .loop .i)
 tested c vs m =
     let s = c .before .before .before .before .before in
     let i = c .before .before .before .loop .i in
-    c .is-marked .ensures ∙ ap (isMarked (s .args .marks)) (c .before .id-at .ensures) ∙ m .each (idAt (now (s .args .b)) i) (s .pre .1 i (omega arith))
+    c .is-marked .ensures ∙ word-told (s .args .t3) (c .before .id-at .result) _ refl
+    ∙ ap (isMarked (s .args .t3)) (c .before .id-at .ensures) ∙ m .each (idAt (now (s .args .b)) i) (s .pre .1 i (omega arith))
 
 returns : tie.Need-returns Inv-loop μ-loop
 returns c vs m =
@@ -61,5 +67,5 @@ pub first-marked-spec : {M : Type 1} → statement M
 first-marked-spec =
     tie.close
     (tie.spec
-    Inv-loop μ-loop loop-holds (λ c κs. search needs) is-marked-requires returns
+    Inv-loop μ-loop loop-holds (λ c κs. search needs) (λ c. search needs) array-read-is-marked (λ c κs. search needs) returns
     (λ c. search needs) (λ c. search needs) loop-again returns-2)
