@@ -1,3 +1,4 @@
 -- What the contracts of `meta` cite.
 pub mod Fnv
 pub mod Meta
+pub mod Newest

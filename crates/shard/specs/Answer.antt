@@ -1,4 +1,4 @@
--- 01, "Taken and left": what the two C functions return, and what they leave in the lent answer buffer, refused or not.
+-- 01, "Taken and left": what the C functions of lookup and judge return, and what they leave in the lent answer buffer, refused or not.
 -- Assumes nothing.
 use mathlib.Core.List.{List, [], _∷_}
 use Prim.Native.Nat.{ℕ}

@@ -1,9 +1,13 @@
-// The two calls of the shard server, as C functions over numbers and byte slices.
+// The three calls of the shard server, as C functions over numbers and byte slices.
 ghost use mathlib.Core.Path.{_≡_};
 ghost use Rattle.tree.specs.Lookup.{lookupOf};
 ghost use Rattle.tree.specs.Judge.{judgeOf};
+ghost use Rattle.meta.specs.Newest.{newestOf, newestFields};
+ghost use Rattle.answer.specs.Answer.{toldNumber, toldAnswer};
 ghost use Rattle.shard.specs.Answer.{lookupNumber, lookupAnswer, judgeNumber, judgeAnswer};
 use answer::give;
+use meta::newest::Newest;
+use meta::newest::newest_meta;
 use tree::Judged;
 use tree::Looked;
 use tree::judge::judge;
@@ -66,6 +70,32 @@ pub extern "C" fn tyvarmos_judge(
         Judged::Refused(f) => {
             let values = [0, 0, f.page as u64, f.element as u64];
             give(answer, f.number, &values)
+        }
+    }
+}
+
+// The number of the newest meta's answer, whose fields stand in `answer`: meta_page, pagesize, root_page, next_int, num_pages, freelist_page, tx_id.
+#[no_mangle]
+pub extern "C" fn tyvarmos_meta(image: &[u8], p: usize, answer: &mut [u8]) -> u64
+    ensures { λ r. ⌜ (r ≡ toldNumber (newestFields (newestOf (now (image .entry)) p)) (now (answer .entry)))
+        × (now (answer .exit) ≡ toldAnswer (newestFields (newestOf (now (image .entry)) p)) (now (answer .entry))) ⌝ }
+{
+    match newest_meta(image, p) {
+        Newest::Taken(page, m) => {
+            let values = [
+                page as u64,
+                m.pagesize,
+                m.root_page,
+                m.next_int,
+                m.num_pages,
+                m.freelist_page,
+                m.tx_id,
+            ];
+            give(answer, 0, &values)
+        }
+        Newest::Refused(number) => {
+            let values = [0; 7];
+            give(answer, number, &values)
         }
     }
 }
