@@ -1,6 +1,6 @@
 -- The number and the values of each answer: what a call answers for a number and its values, and the number that an answer has.
 -- Assumes nothing.
-use mathlib.Core.List.{List}
+use mathlib.Core.List.{List, [], _∷_}
 use mathlib.Core.Bool.{Bool, true, false}
 use Prim.Native.Nat.{ℕ, zero, suc}
 use Rattle.freelist.specs.declared.Answer.{Answer}
@@ -55,6 +55,11 @@ abbrev pub allocatedNumber : Allocated → ℕ
 allocatedNumber (allocated.At s m) = 0
 allocatedNumber (allocated.Refused c) = c
 
+-- the number, the first page handed out and the count of pages from then on
+abbrev pub allocatedFields : Allocated → List ℕ
+allocatedFields (allocated.At s m) = 0 ∷ s ∷ m ∷ []
+allocatedFields (allocated.Refused c) = c ∷ 0 ∷ 0 ∷ []
+
 -- ---- `pages`
 
 -- what is answered for a number and how many ids were written
@@ -67,6 +72,11 @@ abbrev pub listedNumber : Listed → ℕ
 listedNumber (listed.Count k) = 0
 listedNumber (listed.Refused c) = c
 
+-- the number, and how many ids were written
+abbrev pub listedFields : Listed → List ℕ
+listedFields (listed.Count k) = 0 ∷ k ∷ []
+listedFields (listed.Refused c) = c ∷ 0 ∷ []
+
 -- ---- `size`
 
 -- what is answered for a number and a size in bytes
@@ -78,3 +88,8 @@ measuredOf (suc c) k = measured.Refused (suc c)
 abbrev pub measuredNumber : Measured → ℕ
 measuredNumber (measured.Bytes k) = 0
 measuredNumber (measured.Refused c) = c
+
+-- the number, and the size in bytes
+abbrev pub measuredFields : Measured → List ℕ
+measuredFields (measured.Bytes k) = 0 ∷ k ∷ []
+measuredFields (measured.Refused c) = c ∷ 0 ∷ []

@@ -9,11 +9,13 @@ use lib.Dec.{eqb, leb, ltb}
 use lib.ListN.{length, replicate}
 use Rattle.field.specs.Run.{putAt}
 use Rattle.freelist.specs.declared.Allocated.{Allocated}
+use Rattle.freelist.specs.declared.Listed.{Listed}
+use Rattle.freelist.specs.declared.Measured.{Measured}
 use Rattle.freelist.specs.declared.table.State.{State}
 use Rattle.freelist.specs.declared.table.State.the-variants.{InUse, Free, Pending, Broken}
 use Rattle.freelist.specs.Table.{stateOf, isState, isInUse, isFree, isListed}
 use Rattle.freelist.specs.Pages.{row, pagesOf, all, first, keep, rising, each}
-use Rattle.freelist.specs.Answers.{_orElse_, _andThen_, allocatedOf}
+use Rattle.freelist.specs.Answers.{_orElse_, _andThen_, allocatedOf, listedOf, measuredOf}
 
 -- ---- sizes allowed
 
@@ -125,6 +127,10 @@ listing t n = keep (λ k. isListed (stateOf t k)) (pagesOf n)
 unfoldable pub pagesNumber : List ℕ → ℕ → List ℕ → ℕ
 pagesNumber t n ids = faultOf t n andThen leb (length (listing t n)) (length ids) orElse 10
 
+-- what `pages` answers: how many ids were written
+abbrev pub pagesAnswer : List ℕ → ℕ → List ℕ → Listed
+pagesAnswer t n ids = listedOf (pagesNumber t n ids) (length (listing t n))
+
 -- the ids are written from the first place on, and the rest stays
 unfoldable pub pagesList : List ℕ → ℕ → List ℕ → List ℕ
 pagesList t n ids = putAt ids 0 (listing t n)
@@ -134,3 +140,7 @@ pagesList t n ids = putAt ids 0 (listing t n)
 -- 40 plus 8 for each of them
 unfoldable pub sizeOf : List ℕ → ℕ → ℕ
 sizeOf t n = 40 + 8 * length (listing t n)
+
+-- what `size` answers
+abbrev pub sizeAnswer : List ℕ → ℕ → Measured
+sizeAnswer t n = measuredOf (faultOf t n) (sizeOf t n)

@@ -1,8 +1,7 @@
 // The freelist over a table that the caller lends: each page below 32,768 is in use, free, or pending under a transaction's number.
 ghost use mathlib.Core.Path.{_≡_};
-ghost use lib.ListN.{length};
-ghost use Rattle.freelist.specs.Answers.{onDone, answerOf, numberOf, allocatedNumber, listedOf, listedNumber, measuredOf};
-ghost use Rattle.freelist.specs.Freelist.{faultOf, newNumber, newTable, initNumber, initTable, freeNumber, freeTable, releaseTable, allocateAnswer, allocateTable, listing, pagesNumber, pagesList, sizeOf};
+ghost use Rattle.freelist.specs.Answers.{onDone, answerOf, numberOf, allocatedNumber, listedNumber};
+ghost use Rattle.freelist.specs.Freelist.{faultOf, newNumber, newTable, initNumber, initTable, freeNumber, freeTable, releaseTable, allocateAnswer, allocateTable, pagesAnswer, pagesList, sizeAnswer};
 
 mod check;
 mod list;
@@ -130,7 +129,7 @@ pub fn allocate(table: &mut [u64], n: u64, page_size: u64, bytes: u64) -> Alloca
 
 // Writes the free and pending ids, rising, from `ids[0]` on. A list too short for them is 10.
 pub fn pages(table: &[u64], n: u64, ids: &mut [u64]) -> Listed
-    ensures answer { λ r. ⌜ r ≡ listedOf (pagesNumber (now (table .entry)) n (now (ids .entry))) (length (listing (now (table .entry)) n)) ⌝ }
+    ensures answer { λ r. ⌜ r ≡ pagesAnswer (now (table .entry)) n (now (ids .entry)) ⌝ }
     ensures lent { λ r. ⌜ now (ids .exit) ≡ onDone (listedNumber r) (pagesList (now (table .entry)) n (now (ids .entry))) (now (ids .entry)) ⌝ }
 {
     let bad = fault(table, n);
@@ -147,7 +146,7 @@ pub fn pages(table: &[u64], n: u64, ids: &mut [u64]) -> Listed
 
 // The size of the freelist: 40 plus 8 for each free or pending page.
 pub fn size(table: &[u64], n: u64) -> Measured
-    ensures answer { λ r. ⌜ r ≡ measuredOf (faultOf (now (table .entry)) n) (sizeOf (now (table .entry)) n) ⌝ }
+    ensures answer { λ r. ⌜ r ≡ sizeAnswer (now (table .entry)) n ⌝ }
 {
     let bad = fault(table, n);
     if bad != 0 {

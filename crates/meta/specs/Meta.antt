@@ -1,7 +1,7 @@
 -- The meta of a page (01, Meta): 72 bytes from page offset 32 on, each number with its lowest byte first, and a hash over the fields before it.
 -- Assumes nothing.
 use mathlib.Core.Bool.{cond, not}
-use mathlib.Core.List.{List, _++_}
+use mathlib.Core.List.{List, [], _∷_, _++_}
 use Prim.Native.Nat.{ℕ, _+_, _^_, _<_}
 use lib.Dec.{ltb, eqb}
 use lib.ListN.{length, getD, replicate}
@@ -102,6 +102,21 @@ withHash m = record {
   hash = hashOf m;
 }
 
+-- the meta of nine fields, whose own hash is not looked at
+abbrev pub metaOf : ℕ → ℕ → ℕ → ℕ → ℕ → ℕ → ℕ → ℕ → ℕ → Meta
+metaOf page magic version size root next count free tx = record {
+  «meta_page» = page;
+  magic = magic;
+  version = version;
+  pagesize = size;
+  «root_page» = root;
+  «next_int» = next;
+  «num_pages» = count;
+  «freelist_page» = free;
+  «tx_id» = tx;
+  hash = 0;
+}
+
 -- the nine fields are in the ranges of their types
 pub record InRange (m : Meta) : Type 0 where
   pub «meta_page» : m .«meta_page» < 2 ^ 32
@@ -122,3 +137,25 @@ readNumber (NotRead number) = number
 abbrev pub writtenNumber : MetaWritten → ℕ
 writtenNumber (Written hash) = 0
 writtenNumber (NotWritten number) = number
+
+-- the number, and the ten fields in their order
+abbrev pub readFields : MetaRead → List ℕ
+readFields (Read m) =
+    0
+    ∷ m .«meta_page»
+    ∷ m .magic
+    ∷ m .version
+    ∷ m .pagesize
+    ∷ m .«root_page»
+    ∷ m .«next_int»
+    ∷ m .«num_pages»
+    ∷ m .«freelist_page»
+    ∷ m .«tx_id»
+    ∷ m .hash
+    ∷ []
+readFields (NotRead number) = number ∷ replicate 10 0
+
+-- the number, and the hash
+abbrev pub writtenFields : MetaWritten → List ℕ
+writtenFields (Written hash) = 0 ∷ hash ∷ []
+writtenFields (NotWritten number) = number ∷ 0 ∷ []

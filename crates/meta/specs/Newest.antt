@@ -37,7 +37,7 @@ abbrev pub ownSize : MetaRead → ℕ
 ownSize (Read m) = cond (sizeAllowed (m .pagesize)) (m .pagesize) 0
 ownSize (NotRead number) = 0
 
--- what was read counts
+-- there is a meta
 abbrev pub isRead : MetaRead → Bool
 isRead (Read m) = true
 isRead (NotRead number) = false
@@ -79,7 +79,7 @@ newestOf image p =
 unfoldable pub sizeUsed : List ℕ → ℕ → ℕ
 sizeUsed image p = p orSize sizeFound image
 
--- 01's number of an answer, and its fields: meta_page, pagesize, root_page, next_int, num_pages, freelist_page, tx_id
+-- the number of an answer, and its fields: meta_page, pagesize, root_page, next_int, num_pages, freelist_page, tx_id
 abbrev pub newestFields : Newest → List ℕ
 newestFields (Taken place m) =
     0 ∷ place ∷ m .pagesize ∷ m .«root_page» ∷ m .«next_int» ∷ m .«num_pages» ∷ m .«freelist_page» ∷ m .«tx_id» ∷ []
