@@ -1,0 +1,54 @@
+//! The C functions of libshard.a, each in a safe call. A slice passes as pointer and length; the answer buffer comes last.
+
+#[cfg(not(all(target_pointer_width = "64", target_endian = "little")))]
+compile_error!("libshard.a is for 64-bit, little-endian machines");
+
+#[rustfmt::skip]
+extern "C" {
+    fn tyvarmos_lookup(
+        image: *const u8, image_len: usize, page_size: u64, page_count: u64, root: u64,
+        key: *const u8, key_len: usize, answer: *mut u8, answer_len: usize,
+    ) -> u64;
+    fn tyvarmos_judge(
+        image: *const u8, image_len: usize, page_size: u64, page_count: u64, root: u64, freelist_page: u64,
+        answer: *mut u8, answer_len: usize,
+    ) -> u64;
+    fn tyvarmos_meta(
+        image: *const u8, image_len: usize, page_size: u64, answer: *mut u8, answer_len: usize,
+    ) -> u64;
+}
+
+/// A call's number and the fields that it wrote.
+pub type Answer<const FIELDS: usize> = (u64, [u64; FIELDS]);
+
+/// The number; found, kind, place, length, page, element.
+pub fn lookup(image: &[u8], page_size: u64, page_count: u64, root: u64, key: &[u8]) -> Answer<6> {
+    let (start, length) = (image.as_ptr(), image.len());
+    // SAFETY: both slices are lent for reading, and the answer buffer has room for the six fields.
+    ask(|answer, room| unsafe {
+        tyvarmos_lookup(start, length, page_size, page_count, root, key.as_ptr(), key.len(), answer, room)
+    })
+}
+
+/// The number; entries, blocks, page, element.
+pub fn judge(image: &[u8], page_size: u64, page_count: u64, root: u64, freelist_page: u64) -> Answer<4> {
+    let (start, length) = (image.as_ptr(), image.len());
+    // SAFETY: the image is lent for reading, and the answer buffer has room for the four fields.
+    ask(|answer, room| unsafe {
+        tyvarmos_judge(start, length, page_size, page_count, root, freelist_page, answer, room)
+    })
+}
+
+/// The number; meta page, page size, root page, next int, page count, freelist page, transaction.
+pub fn meta(image: &[u8], page_size: u64) -> Answer<7> {
+    let (start, length) = (image.as_ptr(), image.len());
+    // SAFETY: the image is lent for reading, and the answer buffer has room for the seven fields.
+    ask(|answer, room| unsafe { tyvarmos_meta(start, length, page_size, answer, room) })
+}
+
+/// What a call that is given an answer buffer and its length returns and writes.
+fn ask<const FIELDS: usize>(call: impl FnOnce(*mut u8, usize) -> u64) -> Answer<FIELDS> {
+    let mut fields = [[0; 8]; FIELDS];
+    let number = call(fields.as_mut_ptr().cast(), FIELDS * 8);
+    (number, fields.map(u64::from_le_bytes))
+}
