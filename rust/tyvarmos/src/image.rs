@@ -52,9 +52,24 @@ impl<'a> Image<'a> {
         self.bytes
     }
 
+    /// The bytes of a page.
+    pub fn page_size(&self) -> u64 {
+        self.page_size
+    }
+
+    /// How many pages the image has.
+    pub fn page_count(&self) -> u64 {
+        self.page_count
+    }
+
     /// The page at which the tree starts.
     pub fn root(&self) -> u64 {
         self.root
+    }
+
+    /// The page at which the freelist starts.
+    pub fn freelist_page(&self) -> u64 {
+        self.freelist_page
     }
 
     /// The entry with this key, or none. Each whole page met on the way is judged first, no other byte is read.

@@ -1,0 +1,49 @@
+//! Bytes as hex digits.
+
+use std::fmt::Write;
+
+const ROW: usize = 16;
+const MOST_ROWS: usize = 8;
+
+/// The bytes as digits, two for each.
+pub fn digits(bytes: &[u8]) -> String {
+    bytes.iter().fold(String::with_capacity(2 * bytes.len()), |mut text, byte| {
+        let _ = write!(text, "{byte:02x}");
+        text
+    })
+}
+
+/// The bytes that digits stand for, an 0x before them allowed.
+pub fn parse(word: &[u8]) -> Option<Vec<u8>> {
+    let word = word.strip_prefix(b"0x").unwrap_or(word);
+    let digit = |byte: u8| char::from(byte).to_digit(16).map(|digit| digit as u8);
+    let pairs = word.chunks(2).map(|pair| match pair {
+        [high, low] => Some(16 * digit(*high)? + digit(*low)?),
+        _ => None,
+    });
+    pairs.collect()
+}
+
+/// A key or a name for a person: as text where it is plain text, else as digits.
+pub fn shown(bytes: &[u8]) -> String {
+    match std::str::from_utf8(bytes) {
+        Ok(text) if !text.chars().any(char::is_control) => format!("\"{text}\""),
+        _ => format!("0x{}", digits(bytes)),
+    }
+}
+
+/// Rows of digits and characters, each with its place; a long stretch is cut.
+pub fn rows(at: usize, bytes: &[u8]) -> String {
+    let mut text = String::new();
+    for (i, row) in bytes.chunks(ROW).take(MOST_ROWS).enumerate() {
+        let pairs: Vec<String> = row.iter().map(|byte| format!("{byte:02x}")).collect();
+        let plain = |byte: &u8| if matches!(byte, b' '..=b'~') { char::from(*byte) } else { '.' };
+        let characters: String = row.iter().map(plain).collect();
+        let _ = writeln!(text, "    {:08x}  {:47}  {characters}", at + i * ROW, pairs.join(" "));
+    }
+    let left = bytes.len().saturating_sub(ROW * MOST_ROWS);
+    if left > 0 {
+        let _ = writeln!(text, "    and {left} bytes more");
+    }
+    text
+}
