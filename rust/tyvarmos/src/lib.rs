@@ -17,8 +17,9 @@
 //! # }
 //! ```
 //!
-//! [`Image::judge`] reads every page of one tree and the freelist page, and answers a [`Sound`] image or the first [`Fault`]. A bucket has a tree of its
-//! own, judged by itself. [`Image::lookup`] needs no judge before it: it judges each page that it meets, reads no other byte, and may refuse.
+//! [`Image::judge`] reads every page of one tree and the freelist page, and answers a [`Sound`] image or the first
+//! [`Fault`]. A bucket has a tree of its own, judged by itself. [`Image::lookup`] needs no judge before it: it judges
+//! each page that it meets, reads no other byte, and may refuse.
 //!
 //! ```
 //! # fn main() -> Result<(), Box<dyn std::error::Error>> {
@@ -34,17 +35,18 @@
 //!
 //! # What is proved and what is not
 //!
-//! Lookup, the judge and the choice of the meta page are C functions of libshard.a, whose answers are proved for every input; the repository's
-//! docs/PROMISES.md has the statements. This crate passes slices to them and gives their answers types; it is not proved, and has no `unsafe` besides these
-//! calls and [`Mapped`].
+//! Lookup, the judge and the choice of the meta page are C functions of libshard.a, whose answers are proved for every
+//! input; the repository's docs/PROMISES.md has the statements. This crate passes slices to them and gives types to
+//! their answers; it is not proved, and has no `unsafe` besides these calls and [`Mapped`].
 //!
-//! A [`Sound`] image borrows its bytes, so nothing in the program can change them while it lives. A mapped file can be changed by another process,
-//! which no borrow prevents: that is why [`Mapped::new`] is unsafe. Where a file is in use or its disk is in doubt, read it into memory.
+//! A [`Sound`] image borrows its bytes, so nothing in the program can change them while it lives. A mapped file can be
+//! changed by another process, which no borrow prevents: that is why [`Mapped::new`] is unsafe. Where a file is in use
+//! or its disk is in doubt, read it into memory.
 //!
 //! # Building
 //!
-//! The library is looked for in target/staticlib at the repository's top, where `tools/staticlib shard` writes it, or in the folder that the environment
-//! variable TYVARMOS_LIB names.
+//! The library is looked for in target/staticlib at the repository's top, where `tools/staticlib shard` writes it, or
+//! in the folder that the environment variable TYVARMOS_LIB names.
 
 mod entry;
 mod fault;

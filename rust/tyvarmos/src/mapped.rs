@@ -13,7 +13,9 @@ const MAP_PRIVATE: c_int = 2;
 
 #[rustfmt::skip]
 extern "C" {
-    fn mmap(start: *mut c_void, length: usize, protection: c_int, flags: c_int, file: c_int, offset: i64) -> *mut c_void;
+    fn mmap(
+        start: *mut c_void, length: usize, protection: c_int, flags: c_int, file: c_int, offset: i64,
+    ) -> *mut c_void;
     fn munmap(start: *mut c_void, length: usize) -> c_int;
 }
 
@@ -38,8 +40,9 @@ impl Mapped {
     ///
     /// # Safety
     ///
-    /// No process may change or shorten the file while the mapping lives, or a [`Sound`](crate::Sound) image would not stay sound.
-    /// A page that cannot be read, past a new end or on a bad disk, ends the process by a signal; where that may be, read the file instead.
+    /// No process may change or shorten the file while the mapping lives, or a [`Sound`](crate::Sound) image would not
+    /// stay sound. A page that cannot be read, past a new end or on a bad disk, ends the process by a signal; where
+    /// that may be, read the file instead.
     pub unsafe fn new(file: &File) -> io::Result<Mapped> {
         let length = usize::try_from(file.metadata()?.len()).map_err(io::Error::other)?;
         if length == 0 {

@@ -1,4 +1,4 @@
-//! The C functions of libshard.a, each in a safe call. A slice passes as pointer and length; the answer buffer comes last.
+//! The C functions of libshard.a, each in a safe call. A slice passes as pointer and length, the answer buffer last.
 
 #[cfg(not(all(target_pointer_width = "64", target_endian = "little")))]
 compile_error!("libshard.a is for 64-bit, little-endian machines");

@@ -13,6 +13,8 @@ get    Writes the value of KEY to standard output, as it is. It judges each page
        KEY and reads no other: it may find a key in a file that judge refuses.
 stat   Tells what the file says of itself, and what judge counts.
 
+All three only read. A file that is written to meanwhile may be refused for it: ask about a copy.
+
 --bucket NAME       The tree of this bucket in place of the main tree; again for one within it.
 --bucket-hex HEX    The same, the name in hex digits.
 --hex               KEY is in hex digits. Without it KEY is text, whatever it begins with.

@@ -15,7 +15,7 @@ pub struct Tree {
 }
 
 impl Tree {
-    /// The tree that the options and the first bytes of the file name; a meta page is needed where an option is not given.
+    /// The tree that the options name, and the meta page where they leave something out.
     pub fn of(options: &Options, head: &[u8]) -> Result<Tree, Fault> {
         let meta = match options.page_size {
             Some(page_size) => Meta::with_page_size(head, page_size),

@@ -17,10 +17,10 @@ pub fn of_judge(verdict: &Verdict, options: &Options, source: &Source) -> String
     let about = about(verdict, options);
     match &verdict.outcome {
         Outcome::Sound { entries, blocks, time, .. } => {
-            let left = "a bucket's tree is judged by --bucket NAME";
+            let left = "not judged here: name one with --bucket";
             let (counts, time) =
                 (format!("{entries} entries in {blocks} blocks, the freelist's included"), took(*time));
-            format!("{file}: sound\n{about}  counted   {counts}\n  time      {time}\n  not here  {left}\n")
+            format!("{file}: sound\n{about}  counted   {counts}\n  time      {time}\n  buckets   {left}\n")
         }
         Outcome::Refused { fault, view } => {
             let (why, length) = (refusal(verdict, fault), source.length);

@@ -1,0 +1,88 @@
+//! Ways to damage an image.
+
+use reading::layout::{put_u64, u64_at};
+
+use crate::rng::Rng;
+
+/// Damages these bytes once to three times.
+pub fn damage(rng: &mut Rng, bytes: &mut [u8], p: usize) {
+    for _ in 0..1 + rng.below(3) {
+        match rng.below(8) {
+            0 => flip(rng, bytes, p),
+            1 | 2 => set_field(rng, bytes, p),
+            3 => nudge_field(rng, bytes, p),
+            4 => copy_page(rng, bytes, p),
+            5 => copy_words(rng, bytes, p),
+            6 => fill(rng, bytes, p),
+            _ => set_type(rng, bytes, p),
+        }
+    }
+}
+
+/// The start of a page.
+fn page(rng: &mut Rng, bytes: &[u8], p: usize) -> usize {
+    p * rng.below(bytes.len() / p)
+}
+
+/// A place divisible by 8 in a page, most often in its header or its first elements.
+fn word(rng: &mut Rng, bytes: &[u8], p: usize) -> usize {
+    let words = if rng.one_in(4) { p / 8 } else { 4 + 4 * 6 };
+    page(rng, bytes, p) + 8 * rng.below(words)
+}
+
+/// Flips a bit.
+fn flip(rng: &mut Rng, bytes: &mut [u8], p: usize) {
+    let at = word(rng, bytes, p) + rng.below(8);
+    bytes[at] ^= 1 << rng.below(8);
+}
+
+/// Sets a number to one at a limit.
+fn set_field(rng: &mut Rng, bytes: &mut [u8], p: usize) {
+    let at = word(rng, bytes, p);
+    let last = (bytes.len() / p) as u64;
+    let near = rng.below(130) as u64;
+    let limits = [0, 1, 2, last - 1, last, last + 1, p as u64, 1 << 63, u64::MAX, u64::MAX - near, near, near];
+    put_u64(bytes, at, rng.pick(&limits));
+}
+
+/// Adds a little to a number, or takes a little from it.
+fn nudge_field(rng: &mut Rng, bytes: &mut [u8], p: usize) {
+    let at = word(rng, bytes, p);
+    let change = rng.pick(&[1, 1, 2, 8, 24, 32, p as u64]);
+    let number = u64_at(bytes, at);
+    let changed = if rng.one_in(2) { number.wrapping_add(change) } else { number.wrapping_sub(change) };
+    put_u64(bytes, at, changed);
+}
+
+/// Writes a page over another one, at times with the id that belongs there.
+fn copy_page(rng: &mut Rng, bytes: &mut [u8], p: usize) {
+    let (from, to) = (page(rng, bytes, p), page(rng, bytes, p));
+    bytes.copy_within(from..from + p, to);
+    if rng.one_in(2) {
+        put_u64(bytes, to, (to / p) as u64);
+    }
+}
+
+/// Writes some words over others.
+fn copy_words(rng: &mut Rng, bytes: &mut [u8], p: usize) {
+    let length = 8 * (1 + rng.below(4));
+    let most = bytes.len() - length;
+    let (from, to) = (word(rng, bytes, p).min(most), word(rng, bytes, p).min(most));
+    bytes.copy_within(from..from + length, to);
+}
+
+/// Fills a part of a page, or all of it, with zeros or anything.
+fn fill(rng: &mut Rng, bytes: &mut [u8], p: usize) {
+    let start = page(rng, bytes, p) + rng.pick(&[0, 0, 16, 32, p / 2]);
+    let end = start + 1 + rng.below(p - start % p);
+    match rng.one_in(2) {
+        true => bytes[start..end].fill(0),
+        false => rng.fill(&mut bytes[start..end]),
+    }
+}
+
+/// Sets the type of a page.
+fn set_type(rng: &mut Rng, bytes: &mut [u8], p: usize) {
+    let at = page(rng, bytes, p) + 8;
+    bytes[at] = rng.pick(&[0, 1, 1, 2, 2, 3, 4, 255]);
+}

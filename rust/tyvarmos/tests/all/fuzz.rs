@@ -1,0 +1,148 @@
+//! Damaged images: the same verdict and the same lookups as the plain reading, and no crash.
+
+use std::collections::BTreeMap;
+
+use reading::judge::judge;
+use reading::lookup::{lookup, Found};
+use tyvarmos::{Entry, Fault, Image, Kind, Meta};
+
+use crate::damage::damage;
+use crate::rng::Rng;
+use crate::{example, small};
+
+/// How often each number was given.
+type Numbers = BTreeMap<u64, usize>;
+
+/// The numbers of an image: page size, page count, root, freelist page.
+type Sizes = [u64; 4];
+
+fn image(bytes: &[u8], [page_size, page_count, root, freelist]: Sizes) -> Image<'_> {
+    Image::new(bytes, page_size, page_count, root, freelist)
+}
+
+/// The plain reading's fault as the wrapper's.
+fn fault(fault: reading::Fault) -> Fault {
+    Fault { number: fault.number, page: fault.page, element: fault.element }
+}
+
+/// The plain reading's find as the wrapper's.
+fn entry(bytes: &[u8], found: Found) -> Entry<'_> {
+    let (place, length) = (found.place as usize, found.length as usize);
+    let kind = if found.kind == 0 { Kind::Data } else { Kind::Bucket };
+    Entry { kind, value: &bytes[place..place + length], place }
+}
+
+/// Checks the judge's verdict and adds its number.
+fn check_judge(bytes: &[u8], sizes: Sizes, numbers: &mut Numbers) {
+    let [p, n, root, freelist] = sizes;
+    let judged = image(bytes, sizes).judge().map(|sound| (sound.entries(), sound.pages()));
+    let plain = judge(bytes, p, n, root, freelist).map(|sound| (sound.entries, sound.blocks));
+    assert_eq!(judged, plain.map_err(fault), "{sizes:?}");
+    *numbers.entry(judged.map_or_else(|fault| fault.number, |_| 0)).or_default() += 1;
+}
+
+/// Checks a lookup, and `get` where the image is sound, and adds the number.
+fn check_lookup(bytes: &[u8], sizes: Sizes, key: &[u8], numbers: &mut Numbers) {
+    let [p, n, root, _] = sizes;
+    let image = image(bytes, sizes);
+    let looked = image.lookup(key);
+    let plain = lookup(bytes, p, n, root, key).map(|found| found.map(|found| entry(bytes, found)));
+    assert_eq!(looked, plain.map_err(fault), "{sizes:?}, {key:?}");
+    if let Ok(sound) = image.judge() {
+        assert_eq!(Ok(sound.get(key)), looked, "{sizes:?}, {key:?}");
+    }
+    *numbers.entry(looked.map_or_else(|fault| fault.number, |_| 0)).or_default() += 1;
+}
+
+/// The sizes, at times with one of them changed.
+fn changed(rng: &mut Rng, sizes: Sizes) -> Sizes {
+    let mut sizes = sizes;
+    if rng.one_in(12) {
+        let i = rng.below(4);
+        let near = sizes[i].wrapping_add(rng.pick(&[1, 2, 8, u64::MAX, u64::MAX - 1]));
+        sizes[i] = rng.pick(&[0, 1, 2, 5, 7, 1_024, 1_025, 1_032, 32_769, u64::MAX, near, near, near]);
+    }
+    sizes
+}
+
+/// The bytes, at times without their end.
+fn cut<'a>(rng: &mut Rng, bytes: &'a [u8]) -> &'a [u8] {
+    let length = if rng.one_in(40) { rng.below(bytes.len()) } else { bytes.len() };
+    &bytes[..length]
+}
+
+/// Checks that each of these numbers was given often enough to mean something.
+fn check_seen(numbers: &Numbers, wanted: impl Iterator<Item = u64>) {
+    for number in wanted {
+        let times = numbers.get(&number).copied().unwrap_or(0);
+        assert!(times >= 20, "number {number} was given {times} times: {numbers:?}");
+    }
+}
+
+#[test]
+fn damaged_copies_of_a_small_image() {
+    let whole = small::image();
+    let (mut judged, mut looked) = (Numbers::new(), Numbers::new());
+    let mut rng = Rng::new(1);
+    let mut bytes = whole.clone();
+    for _ in 0..60_000 {
+        bytes.copy_from_slice(&whole);
+        damage(&mut rng, &mut bytes, small::P as usize);
+        let sizes = changed(&mut rng, [small::P, small::N, small::ROOT, small::FREELIST]);
+        let lent = cut(&mut rng, &bytes);
+        check_judge(lent, sizes, &mut judged);
+        for _ in 0..3 {
+            let key = rng.pick(&small::KEYS);
+            check_lookup(lent, sizes, key.as_bytes(), &mut looked);
+        }
+    }
+    check_seen(&judged, 0..=8);
+    check_seen(&looked, 0..=6);
+}
+
+#[test]
+fn damaged_copies_of_the_example() {
+    let whole = example();
+    let meta = Meta::of(&whole).unwrap();
+    let main = meta.image(&whole);
+    let characters = main.bucket(b"characters").unwrap().unwrap();
+    let bags = characters.bucket(b"bags").unwrap().unwrap();
+    let keys: Vec<Vec<u8>> = crate::listing::entries(characters).into_iter().map(|(key, _)| key).collect();
+    let (mut judged, mut looked) = (Numbers::new(), Numbers::new());
+    let mut rng = Rng::new(2);
+    let mut bytes = whole.clone();
+    for _ in 0..2_000 {
+        bytes.copy_from_slice(&whole);
+        for _ in 0..1 + rng.below(20) {
+            damage(&mut rng, &mut bytes, small::P as usize);
+        }
+        let root = rng.pick(&[main.root(), characters.root(), bags.root()]);
+        let sizes = [meta.pagesize, meta.num_pages, root, meta.freelist_page];
+        check_judge(&bytes, sizes, &mut judged);
+        for _ in 0..3 {
+            check_lookup(&bytes, sizes, &keys[rng.below(keys.len())], &mut looked);
+        }
+    }
+    check_seen(&judged, [0, 3, 4, 5, 6, 7].into_iter());
+    check_seen(&looked, [0, 3, 5].into_iter());
+}
+
+#[test]
+fn random_bytes() {
+    let (mut judged, mut looked) = (Numbers::new(), Numbers::new());
+    let mut rng = Rng::new(3);
+    let mut bytes = vec![0; 8 * small::P as usize];
+    for _ in 0..2_000 {
+        rng.fill(&mut bytes);
+        for page in 2..8 {
+            let kind = rng.pick(&[1, 2, 4]);
+            let count = rng.below(4) as u64;
+            small::put_header(&mut bytes[page * small::P as usize..], page as u64, kind, count);
+        }
+        let sizes = [small::P, 8, 2 + rng.below(6) as u64, 2 + rng.below(6) as u64];
+        check_judge(&bytes, sizes, &mut judged);
+        check_lookup(&bytes, sizes, b"key", &mut looked);
+    }
+    check_seen(&judged, [3, 4, 5].into_iter());
+    check_seen(&looked, [0, 3, 4, 5].into_iter());
+}

@@ -1,0 +1,20 @@
+//! Tests of the wrapper and of the command, beside the plain reading of the rules in compare/reading.
+
+mod breaches;
+mod command;
+mod damage;
+mod files;
+mod fuzz;
+mod listing;
+mod meta;
+mod rng;
+mod small;
+mod usage;
+mod wrapper;
+
+/// The example's bytes.
+fn example() -> Vec<u8> {
+    std::fs::read(EXAMPLE).unwrap()
+}
+
+const EXAMPLE: &str = concat!(env!("CARGO_MANIFEST_DIR"), "/../../examples/shard.db");
