@@ -1,5 +1,7 @@
-//! Runs the comparison: `compare [--rounds K] [--seed S] [PART ..]`.
+//! Runs the comparison, `compare [--rounds K] [--seed S] [PART ..]`, or the benchmark, `compare --bench`.
 
+#[cfg(feature = "proved")]
+mod bench;
 mod by_reading;
 mod make;
 mod panics;
@@ -56,6 +58,11 @@ impl Options {
 }
 
 fn main() -> ExitCode {
+    #[cfg(feature = "proved")]
+    if std::env::args().nth(1).as_deref() == Some("--bench") {
+        bench::run();
+        return ExitCode::SUCCESS;
+    }
     let options = options();
     panics::keep();
     match std::panic::catch_unwind(|| compare_all(&options)) {

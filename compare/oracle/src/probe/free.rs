@@ -15,6 +15,11 @@ impl FreeTable {
         FreeTable { inner: TxFreelist::new(meta_of(&fields), Freelist::new()) }
     }
 
+    /// The same table again.
+    pub fn copy(&self) -> FreeTable {
+        FreeTable { inner: TxFreelist::new(self.inner.meta.clone(), self.inner.inner.clone()) }
+    }
+
     pub fn init(&mut self, ids: &[u64]) {
         self.inner.inner.init(ids);
     }

@@ -5,6 +5,7 @@ pub mod file;
 pub mod free;
 pub mod meta_page;
 pub mod search;
+pub mod speed;
 pub mod split;
 
 mod aligned;

@@ -36,7 +36,7 @@ pub fn split_into(block: &[u8], pagesize: u64, table: &mut FreeTable) -> Vec<(u6
     pieces
 }
 
-fn siblings<'a>(node: &mut Node<'a>, pagesize: u64) -> Vec<Rc<RefCell<Node<'a>>>> {
+pub(super) fn siblings<'a>(node: &mut Node<'a>, pagesize: u64) -> Vec<Rc<RefCell<Node<'a>>>> {
     let pages = Pages::new(Arc::new(mapped(&[0; 8])), pagesize);
     let meta = BucketMeta { root_page: 2, next_int: 0 };
     let mut bucket = InnerBucket::from_meta(meta, pages);

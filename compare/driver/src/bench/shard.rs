@@ -1,0 +1,117 @@
+//! Lookup and the judge on a shard of characters, beside `Bucket::get`, `DB::check` and a plain read of the image.
+
+use std::hint::black_box;
+
+use oracle::probe::file;
+use oracle::{Bucket, DB};
+use proved::Proved;
+use subject::Subject;
+
+use super::timing::{Race, Table};
+use crate::parts::files::{open, Temporary, View};
+use crate::rng::Rng;
+
+const PAGE_SIZE: u64 = 4_096;
+const BUCKET: &str = "characters";
+const LOOKUPS: usize = 10_000;
+
+/// Times the calls on a shard of so many characters.
+pub fn run(table: &mut Table, characters: usize) {
+    let mut rng = Rng::new(1);
+    let file = Temporary::new("bench");
+    let db = open(&file.path, PAGE_SIZE);
+    let keys = fill(&db, &mut rng, characters);
+    let tx = db.tx(false).unwrap();
+    let bucket = tx.get_bucket(BUCKET).unwrap();
+    let shard = Shard { view: View::new(&tx, &file.path), root: file::root(&bucket), characters };
+    println!("{characters} characters: {} pages of {PAGE_SIZE} bytes", shard.view.meta.num_pages);
+    let present: Vec<Vec<u8>> = (0..LOOKUPS).map(|_| rng.pick(&keys)).collect();
+    let absent: Vec<Vec<u8>> = present.iter().map(|key| [key.as_slice(), b"!"].concat()).collect();
+    shard.lookups(table, &bucket, "a key that is there", &present);
+    shard.lookups(table, &bucket, "a key that is not", &absent);
+    shard.values(table, &bucket, &present);
+    shard.judges(table, &db);
+}
+
+/// The image of a shard and the root of its characters.
+struct Shard {
+    view: View,
+    root: u64,
+    characters: usize,
+}
+
+impl Shard {
+    fn lookup(&self, key: &[u8]) -> (u64, usize, usize) {
+        let mut answer = [0; 48];
+        let (p, n) = (self.view.meta.pagesize, self.view.meta.num_pages);
+        Proved.lookup(&self.view.bytes, p, n, self.root, key, &mut answer);
+        let field = |i: usize| u64::from_le_bytes(answer[i * 8..i * 8 + 8].try_into().unwrap());
+        (field(0), field(2) as usize, field(3) as usize)
+    }
+
+    fn lookups(&self, table: &mut Table, bucket: &Bucket, which: &str, keys: &[Vec<u8>]) {
+        let call = format!("lookup, {which}, {} characters", self.characters);
+        let race = Race { call, peer: "Bucket::get", times: keys.len(), goal: Some(2.0) };
+        table.race(
+            race,
+            || keys.iter().for_each(|key| drop(black_box(self.lookup(key)))),
+            || keys.iter().for_each(|key| drop(black_box(bucket.get(key)))),
+        );
+    }
+
+    /// The value's bytes, each of them looked at.
+    fn values(&self, table: &mut Table, bucket: &Bucket, keys: &[Vec<u8>]) {
+        let call = format!("lookup and the value read, {} characters", self.characters);
+        let race = Race { call, peer: "Bucket::get", times: keys.len(), goal: Some(2.0) };
+        let sum = |value: &[u8]| value.iter().map(|byte| u64::from(*byte)).sum::<u64>();
+        let ours = |key: &[u8]| {
+            let (_, place, length) = self.lookup(key);
+            sum(&self.view.bytes[place..place + length])
+        };
+        let theirs = |key: &[u8]| sum(bucket.get_kv(key).unwrap().value());
+        assert!(keys.iter().all(|key| ours(key) == theirs(key)), "the same values");
+        table.race(
+            race,
+            || drop(black_box(keys.iter().map(|key| ours(key)).sum::<u64>())),
+            || drop(black_box(keys.iter().map(|key| theirs(key)).sum::<u64>())),
+        );
+    }
+
+    fn judges(&self, table: &mut Table, db: &DB) {
+        let (bytes, meta) = (&self.view.bytes, &self.view.meta);
+        let judge = || {
+            let mut answer = [0; 32];
+            Proved.judge(bytes, meta.pagesize, meta.num_pages, self.root, meta.freelist_page, &mut answer)
+        };
+        assert_eq!((judge(), db.check()), (0, Ok(())), "both pass");
+        let call = format!("judge, {} characters", self.characters);
+        let race = Race { call: call.clone(), peer: "DB::check", times: 1, goal: Some(1.5) };
+        table.race(race, || drop(black_box(judge())), || drop(black_box(db.check())));
+        let race = Race { call, peer: "a plain read of the image", times: 1, goal: None };
+        let read = || bytes.chunks_exact(8).map(|word| u64::from_le_bytes(word.try_into().unwrap()));
+        table.race(race, || drop(black_box(judge())), || drop(black_box(read().fold(0, u64::wrapping_add))));
+    }
+}
+
+/// Puts so many characters, a thousand in a transaction, and answers their keys.
+fn fill(db: &DB, rng: &mut Rng, characters: usize) -> Vec<Vec<u8>> {
+    let mut keys: Vec<Vec<u8>> = (0..characters).map(|i| key(rng, i)).collect();
+    rng.shuffle(&mut keys);
+    for part in keys.chunks(1_000) {
+        let tx = db.tx(true).unwrap();
+        let bucket = tx.get_or_create_bucket(BUCKET).unwrap();
+        for key in part {
+            let length = rng.between(80, 240) as usize;
+            bucket.put(key.clone(), rng.bytes(length)).unwrap();
+        }
+        drop(bucket);
+        tx.commit().unwrap();
+    }
+    keys
+}
+
+/// A character's key: the account, then the name.
+fn key(rng: &mut Rng, i: usize) -> Vec<u8> {
+    const NAMES: [&str; 8] = ["Thorgrim", "Ayla", "Morwen", "Brand", "Sigrid", "Odo", "Ysolde", "Kestrel"];
+    format!("account-{:08}/{}-{i}", rng.next() % 50_000, rng.pick(&NAMES)).into_bytes()
+}

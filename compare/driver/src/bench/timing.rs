@@ -1,0 +1,81 @@
+//! Medians over many rounds of two calls in turn, and the table of them.
+
+use std::time::Instant;
+
+const ROUNDS: usize = 51;
+
+/// One line of the table: nanoseconds of a call, ours and theirs.
+struct Line {
+    call: String,
+    peer: &'static str,
+    ours: f64,
+    theirs: f64,
+    goal: Option<f64>,
+}
+
+/// What is timed against what: `goal` is the ratio that is wanted, where there is one.
+pub struct Race<'a> {
+    pub call: String,
+    pub peer: &'a str,
+    pub times: usize,
+    pub goal: Option<f64>,
+}
+
+#[derive(Default)]
+pub struct Table {
+    lines: Vec<Line>,
+}
+
+impl Table {
+    /// Times both for a number of rounds in turn. Each closure makes `times` calls.
+    pub fn race(&mut self, race: Race<'static>, mut ours: impl FnMut(), mut theirs: impl FnMut()) {
+        self.race_with(race, || (), |()| ours(), || (), |()| theirs());
+    }
+
+    /// The same, where each round of a side starts from what its `make` gives, which is not timed.
+    pub fn race_with<A, B>(
+        &mut self,
+        race: Race<'static>,
+        mut make_ours: impl FnMut() -> A,
+        mut ours: impl FnMut(A),
+        mut make_theirs: impl FnMut() -> B,
+        mut theirs: impl FnMut(B),
+    ) {
+        let mut taken = [Vec::new(), Vec::new()];
+        for _ in 0..ROUNDS {
+            taken[0].push(timed(make_ours(), &mut ours));
+            taken[1].push(timed(make_theirs(), &mut theirs));
+        }
+        let [ours, theirs] = taken.map(|times| median(times) / race.times as f64);
+        self.lines.push(Line { call: race.call, peer: race.peer, ours, theirs, goal: race.goal });
+        self.show(self.lines.len() - 1);
+    }
+
+    /// Prints the table as it stands in docs/SPEED.md.
+    pub fn print(&self) {
+        println!();
+        println!("| call | beside | ours, ns | theirs, ns | ratio | goal |");
+        println!("|---|---|---:|---:|---:|---:|");
+        for line in &self.lines {
+            let goal = line.goal.map_or(String::new(), |goal| format!("{goal:.1}"));
+            let Line { call, peer, ours, theirs, .. } = line;
+            println!("| {call} | {peer} | {ours:.0} | {theirs:.0} | {:.2} | {goal} |", ours / theirs);
+        }
+    }
+
+    fn show(&self, i: usize) {
+        let Line { call, peer, ours, theirs, .. } = &self.lines[i];
+        println!("{call}, beside {peer}: {ours:.0} and {theirs:.0} ns, {:.2}", ours / theirs);
+    }
+}
+
+fn timed<A>(input: A, call: &mut impl FnMut(A)) -> f64 {
+    let start = Instant::now();
+    call(input);
+    start.elapsed().as_nanos() as f64
+}
+
+fn median(mut times: Vec<f64>) -> f64 {
+    times.sort_by(f64::total_cmp);
+    times[times.len() / 2]
+}
