@@ -7,7 +7,7 @@ use oracle::probe::{write_content, Content, Item};
 use proved::Proved;
 use subject::{Branch, Leaf, Subject};
 
-use super::timing::{Race, Table};
+use super::timing::{keep, Race, Table};
 use crate::rng::Rng;
 
 const P: u64 = 4_096;
@@ -41,7 +41,7 @@ fn race(call: &str, peer: &'static str, goal: Option<f64>) -> Race<'static> {
 }
 
 fn again(mut call: impl FnMut() -> u64) -> impl FnMut() {
-    move || (0..CALLS).for_each(|_| drop(black_box(call())))
+    move || (0..CALLS).for_each(|_| keep(call()))
 }
 
 fn index(table: &mut Table, leaf: &Content, block: &[u8]) {

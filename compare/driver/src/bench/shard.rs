@@ -1,13 +1,11 @@
 //! Lookup and the judge on a shard of characters, beside `Bucket::get`, `DB::check` and a plain read of the image.
 
-use std::hint::black_box;
-
 use oracle::probe::file;
 use oracle::{Bucket, DB};
 use proved::Proved;
 use subject::Subject;
 
-use super::timing::{Race, Table};
+use super::timing::{keep, Race, Table};
 use crate::parts::files::{open, Temporary, View};
 use crate::rng::Rng;
 
@@ -54,8 +52,8 @@ impl Shard {
         let race = Race { call, peer: "Bucket::get", times: keys.len(), goal: Some(2.0) };
         table.race(
             race,
-            || keys.iter().for_each(|key| drop(black_box(self.lookup(key)))),
-            || keys.iter().for_each(|key| drop(black_box(bucket.get(key)))),
+            || keys.iter().for_each(|key| keep(self.lookup(key))),
+            || keys.iter().for_each(|key| keep(bucket.get(key))),
         );
     }
 
@@ -72,8 +70,8 @@ impl Shard {
         assert!(keys.iter().all(|key| ours(key) == theirs(key)), "the same values");
         table.race(
             race,
-            || drop(black_box(keys.iter().map(|key| ours(key)).sum::<u64>())),
-            || drop(black_box(keys.iter().map(|key| theirs(key)).sum::<u64>())),
+            || keep(keys.iter().map(|key| ours(key)).sum::<u64>()),
+            || keep(keys.iter().map(|key| theirs(key)).sum::<u64>()),
         );
     }
 
@@ -86,10 +84,10 @@ impl Shard {
         assert_eq!((judge(), db.check()), (0, Ok(())), "both pass");
         let call = format!("judge, {} characters", self.characters);
         let race = Race { call: call.clone(), peer: "DB::check", times: 1, goal: Some(1.5) };
-        table.race(race, || drop(black_box(judge())), || drop(black_box(db.check())));
+        table.race(race, || keep(judge()), || keep(db.check()));
         let race = Race { call, peer: "a plain read of the image", times: 1, goal: None };
         let read = || bytes.chunks_exact(8).map(|word| u64::from_le_bytes(word.try_into().unwrap()));
-        table.race(race, || drop(black_box(judge())), || drop(black_box(read().fold(0, u64::wrapping_add))));
+        table.race(race, || keep(judge()), || keep(read().fold(0, u64::wrapping_add)));
     }
 }
 

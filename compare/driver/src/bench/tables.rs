@@ -8,7 +8,7 @@ use proved::Proved;
 use reading::words::TABLE_WORDS;
 use subject::Subject;
 
-use super::timing::{Race, Table};
+use super::timing::{keep, Race, Table};
 use crate::rng::Rng;
 
 const P: u64 = 4_096;
@@ -36,33 +36,24 @@ fn allocate(table: &mut Table, which: &str, ids: &[u64], pages: u64) {
     assert_eq!(Proved.free_init(&mut words, N, ids, &mut []), 0, "an initial list");
     let mut by_crate = FreeTable::new(P, N);
     by_crate.init(ids);
-    let race = Race {
-        call: format!("allocate, {which}"),
-        peer: "TxFreelist::allocate",
-        times: CALLS,
-        goal: Some(1.0),
-    };
+    let race = Race { call: format!("allocate, {which}"), peer: "TxFreelist::allocate", times: CALLS, goal: Some(1.0) };
     let bytes = pages * P;
     table.race_with(
         race,
         || words.clone(),
-        |mut words| (0..CALLS).for_each(|_| drop(black_box(Proved.allocate(&mut words, N, P, bytes, &mut [0; 16])))),
+        |mut words| (0..CALLS).for_each(|_| keep(Proved.allocate(&mut words, N, P, bytes, &mut [0; 16]))),
         || by_crate.copy(),
-        |mut free| (0..CALLS).for_each(|_| drop(black_box(free.allocate(bytes)))),
+        |mut free| (0..CALLS).for_each(|_| keep(free.allocate(bytes))),
     );
 }
 
 fn fnv(table: &mut Table, bytes: &[u8]) {
     let times = 1 + 100_000 / bytes.len();
-    let race = Race {
-        call: format!("FNV-1a of {} bytes", bytes.len()),
-        peer: "the crate's hasher",
-        times,
-        goal: Some(1.0),
-    };
+    let race =
+        Race { call: format!("FNV-1a of {} bytes", bytes.len()), peer: "the crate's hasher", times, goal: Some(1.0) };
     table.race(
         race,
-        || (0..times).for_each(|_| drop(black_box(Proved.fnv1a(black_box(bytes), &mut [0; 8])))),
-        || (0..times).for_each(|_| drop(black_box(meta_page::fnv1a(black_box(bytes))))),
+        || (0..times).for_each(|_| keep(Proved.fnv1a(black_box(bytes), &mut [0; 8]))),
+        || (0..times).for_each(|_| keep(meta_page::fnv1a(black_box(bytes)))),
     );
 }

@@ -1,5 +1,6 @@
 //! Medians over many rounds of two calls in turn, and the table of them.
 
+use std::hint::black_box;
 use std::time::Instant;
 
 const ROUNDS: usize = 51;
@@ -65,8 +66,13 @@ impl Table {
 
     fn show(&self, i: usize) {
         let Line { call, peer, ours, theirs, .. } = &self.lines[i];
-        println!("{call}, beside {peer}: {ours:.0} and {theirs:.0} ns, {:.2}", ours / theirs);
+        println!("{call}, beside {peer}: {:.2}", ours / theirs);
     }
+}
+
+/// Takes a value as one that is needed, so that the work for it is done.
+pub fn keep<T>(value: T) {
+    drop(black_box(value));
 }
 
 fn timed<A>(input: A, call: &mut impl FnMut(A)) -> f64 {

@@ -2,15 +2,17 @@
 
 use super::aligned::Aligned;
 use super::build::{branch, leaf, node_of_block, Item};
-use super::split::siblings;
+use super::split::{no_pages, siblings};
 use crate::bytes::Bytes;
 use crate::node::Node;
+use crate::page::Pages;
 use crate::page_node::PageNode;
 
 /// A block as the crate reads it, and another that it writes.
 pub struct Blocks {
     block: Aligned,
     out: Aligned,
+    pages: Pages,
     pagesize: u64,
 }
 
@@ -18,7 +20,7 @@ impl Blocks {
     /// The block, and room for one of so many pages.
     pub fn new(block: &[u8], pagesize: u64, pages: u64) -> Blocks {
         let out = Aligned::filled((pages * pagesize) as usize, 0);
-        Blocks { block: Aligned::copy(block), out, pagesize }
+        Blocks { block: Aligned::copy(block), out, pages: no_pages(pagesize), pagesize }
     }
 
     /// `index` on the page.
@@ -49,13 +51,13 @@ impl Blocks {
 
     /// The node read and split: how many pieces.
     pub fn split(&self) -> usize {
-        1 + siblings(&mut node_of_block(&self.block, self.pagesize), self.pagesize).len()
+        1 + siblings(&mut node_of_block(&self.block, self.pagesize), &self.pages).len()
     }
 
     /// The node read and split, and every piece written.
     pub fn split_write(&mut self) -> u64 {
         let mut first = node_of_block(&self.block, self.pagesize);
-        let others = siblings(&mut first, self.pagesize);
+        let others = siblings(&mut first, &self.pages);
         let mut bytes = written(&first, &mut self.out, self.pagesize);
         for other in others {
             bytes += written(&other.borrow(), &mut self.out, self.pagesize);

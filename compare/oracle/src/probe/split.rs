@@ -16,7 +16,7 @@ use crate::page::Pages;
 pub fn split(block: &[u8], pagesize: u64, fill: u8, id_of: impl Fn(usize) -> u64) -> Vec<Vec<u8>> {
     let block = Aligned::copy(block);
     let mut first = node_of_block(&block, pagesize);
-    let others = siblings(&mut first, pagesize);
+    let others = siblings(&mut first, &no_pages(pagesize));
     let mut pieces = vec![write_block(&mut first, pagesize, id_of(0), fill)];
     for (i, other) in others.iter().enumerate() {
         pieces.push(write_block(&mut other.borrow_mut(), pagesize, id_of(i + 1), fill));
@@ -28,7 +28,7 @@ pub fn split(block: &[u8], pagesize: u64, fill: u8, id_of: impl Fn(usize) -> u64
 pub fn split_into(block: &[u8], pagesize: u64, table: &mut FreeTable) -> Vec<(u64, Vec<u8>)> {
     let block = Aligned::copy(block);
     let mut first = node_of_block(&block, pagesize);
-    let others = siblings(&mut first, pagesize);
+    let others = siblings(&mut first, &no_pages(pagesize));
     let mut pieces = vec![written(&mut first, table)];
     for other in others {
         pieces.push(written(&mut other.borrow_mut(), table));
@@ -36,10 +36,15 @@ pub fn split_into(block: &[u8], pagesize: u64, table: &mut FreeTable) -> Vec<(u6
     pieces
 }
 
-pub(super) fn siblings<'a>(node: &mut Node<'a>, pagesize: u64) -> Vec<Rc<RefCell<Node<'a>>>> {
-    let pages = Pages::new(Arc::new(mapped(&[0; 8])), pagesize);
+/// The pages of a file that holds none, which `split` takes and does not read.
+pub(super) fn no_pages(pagesize: u64) -> Pages {
+    Pages::new(Arc::new(mapped(&[0; 8])), pagesize)
+}
+
+/// The pieces of a node after the first, which it keeps.
+pub(super) fn siblings<'a>(node: &mut Node<'a>, pages: &Pages) -> Vec<Rc<RefCell<Node<'a>>>> {
     let meta = BucketMeta { root_page: 2, next_int: 0 };
-    let mut bucket = InnerBucket::from_meta(meta, pages);
+    let mut bucket = InnerBucket::from_meta(meta, pages.clone());
     node.split(&mut bucket).unwrap_or_default()
 }
 
