@@ -6,6 +6,7 @@ mod by_reading;
 mod make;
 mod panics;
 mod parts;
+mod record;
 mod rng;
 mod tally;
 
@@ -48,6 +49,7 @@ const READING_PARTS: [Part; 1] =
 struct Options {
     rounds: usize,
     seed: u64,
+    record: bool,
     parts: Vec<String>,
 }
 
@@ -65,7 +67,7 @@ fn main() -> ExitCode {
     }
     let options = options();
     panics::keep();
-    match std::panic::catch_unwind(|| compare_all(&options)) {
+    match std::panic::catch_unwind(|| if options.record { record::run() } else { compare_all(&options) }) {
         Ok(0) => ExitCode::SUCCESS,
         Ok(_) => ExitCode::FAILURE,
         Err(_) => {
@@ -103,13 +105,14 @@ fn compare(subject: &dyn Subject, parts: &[Part], options: &Options, total: &mut
 }
 
 fn options() -> Options {
-    let mut options = Options { rounds: 1, seed: 1, parts: Vec::new() };
+    let mut options = Options { rounds: 1, seed: 1, record: false, parts: Vec::new() };
     let mut words = std::env::args().skip(1);
     while let Some(word) = words.next() {
         let mut number = || words.next().and_then(|word| word.parse().ok()).expect("a number");
         match word.as_str() {
             "--rounds" => options.rounds = number() as usize,
             "--seed" => options.seed = number(),
+            "--record" => options.record = true,
             name => {
                 let known = PARTS.iter().chain(&READING_PARTS).any(|part| part.name == name);
                 assert!(known, "no part {name}");

@@ -47,14 +47,15 @@ fn fnv1a(run: &mut Run, bytes: &[u8], hash: u64) {
 }
 
 /// Any bytes with the type of a meta page, at times another.
-fn page(rng: &mut Rng) -> Vec<u8> {
+pub fn page(rng: &mut Rng) -> Vec<u8> {
     let length = rng.pick(&[104, 112, 1_024]);
     let mut page = rng.bytes(length);
     page[8] = if rng.one_in(8) { rng.below(6) as u8 } else { 3 };
     page
 }
 
-fn fields(rng: &mut Rng) -> Fields {
+/// Any fields, many at limits.
+pub fn fields(rng: &mut Rng) -> Fields {
     let mut number = || rng.pick(&[0, 1, u64::MAX, 1 << 32]) ^ (rng.next() >> rng.below(64));
     Fields {
         meta_page: number() as u32,

@@ -102,7 +102,7 @@ fn insert_branch(run: &mut Run, case: &Case) {
 }
 
 /// False where the crate stores a replacement that breaks the order, which 01 refuses.
-fn replaces_in_order(items: &[Item], original: Option<&[u8]>, key: &[u8]) -> bool {
+pub fn replaces_in_order(items: &[Item], original: Option<&[u8]>, key: &[u8]) -> bool {
     let Some(at) = items.iter().position(|item| Some(item.key.as_slice()) == original) else {
         return true;
     };

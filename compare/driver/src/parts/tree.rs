@@ -33,7 +33,7 @@ pub fn looked(run: &Run, image: &[u8], (p, n, root): (u64, u64, u64), key: &[u8]
         (0, [0, 0, 0, 0, 0, 0]) => Ok(None),
         (0, [1, kind, place, length, 0, 0]) => {
             let value = image[place as usize..(place + length) as usize].to_vec();
-            Ok(Some(Hit { kind, place: (kind == 0).then_some(place), value }))
+            Ok(Some(Hit { kind, place, value }))
         }
         (number, _) => Err(number),
     }

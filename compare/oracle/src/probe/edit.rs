@@ -3,7 +3,7 @@
 use super::aligned::Aligned;
 use super::build::{branch, leaf, node_of_block, node_size, write_block, Item};
 use super::caught;
-use super::search::item;
+use super::search::{item, value_place};
 use crate::bytes::Bytes;
 use crate::node::Node;
 
@@ -26,6 +26,16 @@ pub fn insert(block: &[u8], pagesize: u64, entry: &Item, fill: u8) -> Option<Vec
 /// `delete`: the block without the entry, and the entry.
 pub fn delete(block: &[u8], pagesize: u64, index: usize, fill: u8) -> Option<(Vec<u8>, Item)> {
     edited(block, pagesize, fill, |node| item(&node.delete(index)))
+}
+
+/// What `delete` takes out of the block: kind, place and length of the key, place and length of the value.
+pub fn removed(block: &[u8], pagesize: u64, index: usize) -> Option<[u64; 5]> {
+    let block = Aligned::copy(block);
+    let leaf = caught(|| node_of_block(&block, pagesize).delete(index))?;
+    let (key_length, value_length) = (leaf.key().len() as u64, leaf.value().len() as u64);
+    let key_place = leaf.key().as_ptr() as usize - block.bytes().as_ptr() as usize;
+    let value_place = value_place(&leaf, block.bytes().as_ptr());
+    Some([u64::from(leaf.node_type()), key_place as u64, key_length, value_place, value_length])
 }
 
 /// `insert_branch`, nothing where it panics.

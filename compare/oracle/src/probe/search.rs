@@ -45,12 +45,18 @@ pub struct Image {
     pages: Pages,
 }
 
-/// What the crate's descent found; the place in the image is known for data only, a bucket's value being copied out.
+/// What the crate's descent found, and where in the image its value stands.
 #[derive(Debug, PartialEq, Eq)]
 pub struct Hit {
     pub kind: u64,
-    pub place: Option<u64>,
+    pub place: u64,
     pub value: Vec<u8>,
+}
+
+/// How far from `start` the value of an entry stands: a bucket's, which the crate copies out, right after its key.
+pub(super) fn value_place(leaf: &Leaf, start: *const u8) -> u64 {
+    let value = if leaf.is_kv() { leaf.value().as_ptr() } else { leaf.key().as_ptr_range().end };
+    (value as usize - start as usize) as u64
 }
 
 impl Image {
@@ -62,19 +68,29 @@ impl Image {
     pub fn get(&self, root: u64, key: &[u8]) -> Option<Hit> {
         let meta = BucketMeta { root_page: root, next_int: 0 };
         let leaf = InnerBucket::from_meta(meta, self.pages.clone()).get(key)?;
-        let value = leaf.value();
-        let start = self.pages.data.as_ptr() as usize;
-        let place = leaf.is_kv().then(|| (value.as_ptr() as usize - start) as u64);
-        Some(Hit { kind: u64::from(leaf.node_type()), place, value: value.to_vec() })
+        let place = value_place(&leaf, self.pages.data.as_ptr());
+        Some(Hit { kind: u64::from(leaf.node_type()), place, value: leaf.value().to_vec() })
+    }
+
+    /// The first page and the pages of each block of the tree under this root.
+    pub fn spans(&self, root: u64) -> Vec<(u64, u64)> {
+        let page = self.pages.page(root);
+        let mut spans = vec![(root, page.overflow + 1)];
+        if page.page_type == Page::TYPE_BRANCH {
+            spans.extend(page.branch_elements().iter().flat_map(|element| self.spans(element.page)));
+        }
+        spans
     }
 
     /// The blocks of the tree under this root.
     pub fn blocks(&self, root: u64) -> u64 {
-        let page = self.pages.page(root);
-        if page.page_type == Page::TYPE_LEAF {
-            return 1;
-        }
-        1 + page.branch_elements().iter().map(|element| self.blocks(element.page)).sum::<u64>()
+        self.spans(root).len() as u64
+    }
+
+    /// The entries in the leaves of the tree under this root.
+    pub fn entries(&self, root: u64) -> u64 {
+        let pages = self.spans(root).into_iter().map(|(first, _)| self.pages.page(first));
+        pages.filter(|page| page.page_type == Page::TYPE_LEAF).map(|page| page.count).sum()
     }
 }
 

@@ -1,0 +1,116 @@
+//! Images: lookups by the crate's descent, and what the judge counts in files that the crate's own check passes.
+
+use std::fs;
+
+use oracle::probe::file;
+use oracle::probe::search::Image;
+
+use super::tape::{Call, Record, Tape};
+use crate::make::fields::{get, unset_cleared};
+use crate::make::store::{Plan, Store};
+use crate::make::{content, tree};
+use crate::parts::files::{descend, open, Temporary, View};
+use crate::rng::Rng;
+
+const PLANS: [Plan; 5] = [
+    Plan { pagesize: 1_024, steps: 4, puts: 8, deletes: 2, keys: 40, value: 60, nested: true },
+    Plan { pagesize: 1_024, steps: 6, puts: 16, deletes: 8, keys: 60, value: 30, nested: true },
+    Plan { pagesize: 1_024, steps: 5, puts: 60, deletes: 10, keys: 200, value: 20, nested: false },
+    Plan { pagesize: 1_032, steps: 5, puts: 12, deletes: 4, keys: 40, value: 150, nested: true },
+    Plan { pagesize: 2_048, steps: 4, puts: 20, deletes: 6, keys: 60, value: 200, nested: true },
+];
+
+pub fn record(rng: &mut Rng, tape: &mut Tape) {
+    for plan in PLANS.iter().cycle().take(10) {
+        let (view, roots) = made(rng, plan);
+        image(tape, &view.bytes);
+        for (root, keys) in roots {
+            judge(tape, &view, root);
+            lookups(rng, tape, &view.bytes, (plan.pagesize, view.meta.num_pages, root), &keys);
+        }
+    }
+    for levels in [1, 2, 3, 4, 16] {
+        let tree = tree::tree(rng, &tree::Shape { p: 1_024, entries: 8, levels, fanout: 2 });
+        image(tape, &tree.image);
+        let keys: Vec<Vec<u8>> = tree.items.iter().map(|item| item.key.clone()).collect();
+        lookups(rng, tape, &tree.image, (tree.p, tree.n, tree.root), &keys);
+    }
+}
+
+fn image(tape: &mut Tape, bytes: &[u8]) {
+    tape.add(&Record { call: Call::Image, block: bytes, ..Record::default() });
+}
+
+/// The root of a tree, and keys in it.
+type Root = (u64, Vec<Vec<u8>>);
+
+/// A file made after this plan, in the bytes that the crate set, with every tree in it.
+fn made(rng: &mut Rng, plan: &Plan) -> (View, Vec<Root>) {
+    let temporary = Temporary::new("record");
+    let mut store = Store::new(plan);
+    let db = open(&temporary.path, plan.pagesize);
+    for _ in 0..plan.steps {
+        store.transact(&db, rng).unwrap();
+    }
+    let tx = db.tx(false).unwrap();
+    let mut view = View::new(&tx, &temporary.path);
+    let mut roots = vec![(view.meta.root_page, vec![b"A".to_vec(), b"B".to_vec()])];
+    for (names, data) in &store.buckets {
+        roots.push((file::root(&descend(&tx, names)), data.keys().cloned().collect()));
+    }
+    view.bytes = set_bytes(&view, roots.iter().map(|(root, _)| *root));
+    (view, roots)
+}
+
+/// The file with zeros in every byte that the crate left unset, and in every page that holds nothing; the crate's check passes it.
+fn set_bytes(view: &View, roots: impl Iterator<Item = u64>) -> Vec<u8> {
+    let p = view.meta.pagesize as usize;
+    let mut bytes = vec![0; view.bytes.len()];
+    for meta in [0, p] {
+        bytes[meta..meta + 104].copy_from_slice(&view.bytes[meta..meta + 104]);
+        bytes[meta + 9..meta + 16].fill(0);
+        bytes[meta + 44..meta + 48].fill(0);
+    }
+    let image = Image::new(&view.bytes, view.meta.pagesize);
+    for (first, pages) in roots.flat_map(|root| image.spans(root)) {
+        let (start, end) = (first as usize * p, (first + pages) as usize * p);
+        bytes[start..end].copy_from_slice(&unset_cleared(&view.bytes[start..end]));
+    }
+    let start = view.meta.freelist_page as usize * p;
+    let end = start + 32 + 8 * get(&view.bytes, start + 16) as usize;
+    bytes[start..end].copy_from_slice(&view.bytes[start..end]);
+    bytes[start + 9..start + 16].fill(0);
+    let temporary = Temporary::new("record-set");
+    fs::write(&temporary.path, &bytes).unwrap();
+    assert_eq!(open(&temporary.path, view.meta.pagesize).check(), Ok(()));
+    bytes
+}
+
+/// The entries and blocks that the crate counts; the freelist is one block more.
+fn judge(tape: &mut Tape, view: &View, root: u64) {
+    let image = Image::new(&view.bytes, view.meta.pagesize);
+    tape.add(&Record {
+        call: Call::Judge,
+        arguments: &[view.meta.pagesize, view.meta.num_pages, root, view.meta.freelist_page],
+        fields: &[image.entries(root), image.blocks(root) + 1, 0, 0],
+        ..Record::default()
+    });
+}
+
+/// Some of these keys, and keys near them.
+fn lookups(rng: &mut Rng, tape: &mut Tape, bytes: &[u8], (p, n, root): (u64, u64, u64), keys: &[Vec<u8>]) {
+    let image = Image::new(bytes, p);
+    let mut keys = keys.to_vec();
+    rng.shuffle(&mut keys);
+    keys.truncate(6);
+    for key in content::questions(rng, &keys, 2) {
+        let hit = image.get(root, &key);
+        tape.add(&Record {
+            call: Call::Lookup,
+            arguments: &[p, n, root],
+            key: &key,
+            fields: &hit.map_or([0; 6], |hit| [1, hit.kind, hit.place, hit.value.len() as u64, 0, 0]),
+            ..Record::default()
+        });
+    }
+}
