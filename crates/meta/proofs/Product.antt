@@ -1,36 +1,18 @@
--- The product of two numbers of 64 bits, by halves of 32.
+-- The product by the prime, modulo 2 ^ 64, as four sums of shifted numbers: with the multiples of 2 ^ 64 that they drop, they make the whole product.
 -- Assumes nothing.
-use mathlib.Core.Path.{_≡_, subst⁻¹}
-use Prim.Native.Nat.{ℕ, _+_, _*_, _/_, _%_, _^_, _<_}
-use native.Mathlib.Nat.{div-add-mod', le-of-lt, lt-of-le-of-lt, mul-le-mul-left, mul-lt-mul-of-pos-right, add-mul, mul-add, mul-assoc, mul-right-comm}
+use mathlib.Core.Path.{_≡_, sym, ap, _∙_}
+use Prim.Native.Nat.{ℕ, _+_, _*_, _/_, _%_, _^_}
+use native.Mathlib.Nat.{mod-eq-of-lt, add-mul-mod-self-right}
 use native.Mathlib.Omega.{arith}
-use lib.Pow.{pow-pos, pow-add}
+use Rattle.meta.specs.Fnv.{prime}
 
--- the product of two numbers of k bits has at most k + k
-pub below : (k : ℕ) {a b : ℕ} → a < 2 ^ k → b < 2 ^ k → a * b < 2 ^ (k + k)
-below k {a} {b} ha hb =
-    subst⁻¹ (λ (n : ℕ). a * b < n) (pow-add 2 k k)
-    (lt-of-le-of-lt (mul-le-mul-left a (le-of-lt hb)) (mul-lt-mul-of-pos-right ha (pow-pos k)))
-
-pub expand : (x y z w : ℕ) → (x * 4294967296 + y) * (z * 4294967296 + w) ≡ x * z * 18446744073709551616 + (x * w + y * z) * 4294967296 + y * w
-expand x y z w =
-    let c : ℕ = z * 4294967296 + w in
-    omega (
-      arith,
-      add-mul (x * 4294967296) y c,
-      mul-right-comm x 4294967296 c,
-      mul-add x (z * 4294967296) w,
-      mul-assoc x z 4294967296,
-      mul-add y (z * 4294967296) w,
-      mul-assoc y z 4294967296,
-    )
-
--- m is the mixed products, as a sum of 64 bits, and r the product
-pub by-halves : (a b m r : ℕ)
-    → m ≡ (a / 4294967296 * (b % 4294967296) + a % 4294967296 * (b / 4294967296)) % 2 ^ 64
-    → r ≡ (m % 4294967296 * 4294967296 + a % 4294967296 * (b % 4294967296)) % 2 ^ 64
-    → r ≡ (a * b) % 2 ^ 64
-by-halves a b m r p q =
-    let e : (a / 4294967296 * 4294967296 + a % 4294967296) * (b / 4294967296 * 4294967296 + b % 4294967296) ≡ a * b =
-    rw (div-add-mod' a 4294967296, div-add-mod' b 4294967296) in
-    omega (arith, expand (a / 4294967296) (a % 4294967296) (b / 4294967296) (b % 4294967296))
+pub by-shifts : (x : ℕ) {x3 x51 x435 r : ℕ}
+    → x3 ≡ (x + x * 2 ^ 1) % 2 ^ 64
+    → x51 ≡ (x3 + x3 * 2 ^ 4) % 2 ^ 64
+    → x435 ≡ (x51 + x3 * 2 ^ 7) % 2 ^ 64
+    → r ≡ (x435 + x * 2 ^ 40) % 2 ^ 64
+    → r ≡ (x * prime) % 2 ^ 64
+by-shifts x {x3} {x51} {x435} {r} a b c d =
+    let dropped : ℕ = 145 * ((x + x * 2 ^ 1) / 2 ^ 64) + (x3 + x3 * 2 ^ 4) / 2 ^ 64 + (x51 + x3 * 2 ^ 7) / 2 ^ 64 + (x435 + x * 2 ^ 40) / 2 ^ 64 in
+    let e : r + dropped * 2 ^ 64 ≡ x * prime = omega arith in
+    sym (mod-eq-of-lt (omega arith)) ∙ sym (add-mul-mod-self-right r dropped (2 ^ 64)) ∙ ap (λ (n : ℕ). n % 2 ^ 64) e
