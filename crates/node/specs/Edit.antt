@@ -55,11 +55,6 @@ pub record Edits (leaf : Bool) (id P : ℕ) (out : List ℕ) (o : Outcome) (r : 
   pub answers : r ≡ answer leaf P o
   pub leaves : exit ≡ output leaf id P out o
 
--- 01's number of an answer
-abbrev pub numberOf : Edited → ℕ
-numberOf (edited.Written bytes) = 0
-numberOf (edited.Refused number element) = number
-
 -- ---- delete: a branch, or an index not below the count, is 11
 unfoldable pub deleteOf : ℕ → List ℕ → ℕ → List ℕ → Outcome
 deleteOf P b i out =
