@@ -7,3 +7,4 @@ pub mod PartLaws
 pub mod WriteLaws
 pub mod PagesLaws
 pub mod WrittenLaws
+pub mod PiecesPass

@@ -1,16 +1,18 @@
--- The pieces that the code goes over are those of the definition, and pages counted up to one past the most that an image has decide as all do.
+-- The pieces that the code goes over are those of the definition, pages counted up to one past the most that an image has decide as all do,
+-- and the block of each piece is inside and stands after those before it.
 -- Assumes nothing.
 use mathlib.Core.Path.{_≡_, refl, sym, ap, _∙_}
 use mathlib.Core.Bool.{Bool, true, false, _&&_, _||_}
-use mathlib.Core.List.{List, [], _∷_}
+use mathlib.Core.List.{List, [], _∷_, _++_, append-assoc}
 use Prim.Native.Nat.{ℕ, zero, suc, _+_, _-_, _≤_, _<_, min}
 use native.Mathlib.Omega.{arith}
 use lib.Dec.{leb}
-use lib.ListN.{length, length-map, length-append}
+use lib.ListN.{length, getD, take, drop, length-map, length-append}
+use lib.Seq.{take-at, drop-append-add}
 use Rattle.page.specs.Layout.{Entry, countOf, entriesOf}
 use Rattle.page.proofs.TestLaws.{leb-same, and-both}
 use Rattle.page.proofs.EntryLaws.{length-entries}
-use Rattle.pack.specs.Pack.{pack}
+use Rattle.pack.specs.Pack.{blockSize, pack}
 use Rattle.pack.specs.Plan.{range}
 use Rattle.pack.proofs.RangeLaws.{range-part}
 use Rattle.pack.proofs.PackLaws.{length-pack}
@@ -126,3 +128,30 @@ module _ (leaf : Bool) (P : ℕ) where
         let l = inside-end N q k (both .0) in
         let m : min (spanOf leaf P p) 32769 ≡ spanOf leaf P p = omega arith in
         rw (m, rest)
+
+-- ---- the piece at an index
+module _ (leaf : Bool) (P : ℕ) where
+  -- its block is inside
+  pub placed-at : (N : ℕ) (qs : List ℕ) (ps : List (List Entry)) → placed N qs (spansOf leaf P ps) ≡ true
+      → (i : ℕ) → i < length qs → i < length ps → inside N (getD qs i 0) (spanOf leaf P (getD ps i [])) ≡ true
+  unfolding placed
+  placed-at N [] ps e i h k = absurd (omega arith)
+  placed-at N (q ∷ qs) [] e i h k = absurd (omega arith)
+  placed-at N (q ∷ qs) (p ∷ ps) e zero h k = and-both _ _ e .0
+  placed-at N (q ∷ qs) (p ∷ ps) e (suc i) h k =
+      let c : Bool = clearOf q (spanOf leaf P p) qs (spansOf leaf P ps) in
+      let rest = and-both (inside N q (spanOf leaf P p)) (c && placed N qs (spansOf leaf P ps)) e .1 in
+      placed-at N qs ps (and-both c (placed N qs (spansOf leaf P ps)) rest .1) i (omega arith) (omega arith)
+
+  -- and stands after the blocks before it
+  pub packed-at : (qs : List ℕ) (ps : List (List Entry)) (rest : List ℕ) → 0 < P → (i : ℕ) → i < length qs → i < length ps
+      → take (blockSize leaf (getD ps i []) P) (drop (bytesIn P (spansOf leaf P (take i ps))) (packAll leaf P qs ps ++ rest))
+      ≡ pack leaf (getD qs i 0) (getD ps i []) P
+  unfolding packAll bytesIn
+  packed-at [] ps rest p i h k = absurd (omega arith)
+  packed-at (q ∷ qs) [] rest p i h k = absurd (omega arith)
+  packed-at (q ∷ qs) (e ∷ ps) rest p zero h k =
+      rw (append-assoc (pack leaf q e P) (packAll leaf P qs ps) rest) (take-at (pack leaf q e P) _ (blockSize leaf e P) (length-pack leaf q e P p))
+  packed-at (q ∷ qs) (e ∷ ps) rest p (suc i) h k =
+      rw (append-assoc (pack leaf q e P) (packAll leaf P qs ps) rest, ← length-pack leaf q e P p, drop-append-add (pack leaf q e P) (packAll leaf P qs ps ++ rest))
+      (packed-at qs ps rest p i (omega arith) (omega arith))

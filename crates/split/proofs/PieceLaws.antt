@@ -1,18 +1,20 @@
--- The pieces of a node: joined they are its entries in order, there is one more than there are cuts, and each has at least 2 entries.
+-- The pieces of a node: joined they are its entries in order, there is one more than there are cuts, each has at least 2 entries, and each is a
+-- part of the entries.
 -- Cuts stand 2 or more apart, since the count restarts at each and the run stops before the last two entries. Assumes nothing.
 use mathlib.Core.Path.{_≡_, refl, sym, ap, _∙_}
 use mathlib.Core.Bool.{Bool, true, false, cond}
 use mathlib.Core.List.{List, [], _∷_, append-nil, flatten}
-use Prim.Native.Nat.{ℕ, suc, _+_, _-_, _≤_}
+use Prim.Native.Nat.{ℕ, zero, suc, _+_, _-_, _≤_, _<_}
 use native.Mathlib.Nat.{sub-zero}
 use native.Mathlib.Omega.{arith}
 use lib.Dec.{leb}
-use lib.ListN.{length, take, drop, length-take, length-drop, take-append-drop}
+use lib.ListN.{length, getD, take, drop, length-take, length-drop, take-append-drop}
 use lib.Seq.{take-all, drop-drop}
 use borrow.Author.Tests.{le-leb, leb-true, leb-false}
 use Rattle.page.specs.Layout.{Entry}
 use Rattle.page.proofs.TestLaws.{and-both}
 use Rattle.pack.specs.Pack.{entrySize}
+use Rattle.pack.specs.Plan.{cutOf}
 use Rattle.split.specs.Split.{threshold, unsplit, cutHere, cutsFrom, butTwo, cutsOf, piecesFrom, piecesOf}
 
 -- from i each cut is 2 or more after the one before it, and so is the end
@@ -95,3 +97,42 @@ module _ (leaf : Bool) (P : ℕ) (es : List Entry) where
       go : (q : Bool) → leb (length es) 4 ≡ q → flatten (piecesOf leaf P es) ≡ es
       go true p = rw (cuts-few leaf P es (leb-true (length es) 4 p)) (append-nil (take (length es - 0) es) ∙ rw sub-zero (take-all (length es) es (omega arith)))
       go false p = let l = leb-false (length es) 4 p in joined-from 0 (cutsOf leaf P es) es (cuts-apart leaf P es (omega arith))
+
+-- ---- a piece is a part of the entries, and is empty only where there are none
+pub record Part (es piece : List Entry) : Type 0 where
+  pub from : ℕ
+  pub to : ℕ
+  pub same : piece ≡ cutOf from to es
+  pub ordered : from ≤ to
+  pub within : to ≤ length es
+  pub filled : from ≡ to → length es ≡ 0
+
+part-from : (i : ℕ) (cs : List ℕ) (es : List Entry) → Apart i cs (length es) → (j : ℕ) → j < suc (length cs) → Part es (getD (piecesFrom i cs es) j [])
+unfolding Apart piecesFrom
+part-from i [] es h zero l =
+    record { from = i; to = length es; same = refl; ordered = omega arith; within = omega arith; filled = λ e. absurd (omega arith) }
+part-from i [] es h (suc j) l = absurd (omega arith)
+part-from i (c ∷ cs) es h zero l =
+    let k = h .0 in
+    let e = apart-end c cs (length es) (h .1) in
+    record { from = i; to = c; same = refl; ordered = omega arith; within = omega arith; filled = λ z. absurd (omega arith) }
+part-from i (c ∷ cs) es h (suc j) l = part-from c cs es (h .1) j (omega arith)
+
+-- with no cut the piece is all of them
+part-all : (es : List Entry) (j : ℕ) → j < 1 → Part es (getD (piecesFrom 0 [] es) j [])
+unfolding piecesFrom
+part-all es zero l = record { from = 0; to = length es; same = refl; ordered = omega arith; within = omega arith; filled = λ e. sym e }
+part-all es (suc j) l = absurd (omega arith)
+
+pub piece-part : (leaf : Bool) (P : ℕ) (es : List Entry) (j : ℕ) → j < length (piecesOf leaf P es) → Part es (getD (piecesOf leaf P es) j [])
+piece-part leaf P es j l = go (leb (length es) 4) refl
+  where
+    n : length (piecesOf leaf P es) ≡ suc (length (cutsOf leaf P es))
+    n = length-pieces 0 (cutsOf leaf P es) es
+
+    go : (q : Bool) → leb (length es) 4 ≡ q → Part es (getD (piecesOf leaf P es) j [])
+    go true p =
+        let none = cuts-few leaf P es (leb-true (length es) 4 p) in
+        let z = ap length none in
+        rw none (part-all es j (omega (arith, n)))
+    go false p = let few = leb-false (length es) 4 p in part-from 0 (cutsOf leaf P es) es (cuts-apart leaf P es (omega arith)) j (omega (arith, n))
