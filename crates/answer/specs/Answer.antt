@@ -12,14 +12,15 @@ unfoldable pub fields : List ℕ → List ℕ
 fields [] = []
 fields (x ∷ xs) = bytesOf 8 x ++ fields xs
 
--- fewer bytes than so many fields take
+-- the buffer has fewer bytes than so many fields take
 abbrev pub tooShort : ℕ → List ℕ → Bool
 tooShort count answer = ltb (length answer) (8 * count)
 
--- is 1, and they stay; bytes past the fields stay
+-- that is 1, and else the call's own number
 unfoldable pub numberWith : ℕ → ℕ → List ℕ → ℕ
 numberWith count number answer = cond (tooShort count answer) 1 number
 
+-- such a buffer stays; in another the fields stand from byte 0 on, and bytes past them stay
 unfoldable pub answerWith : List ℕ → List ℕ → List ℕ
 answerWith values answer = cond (tooShort (length values) answer) answer (fields values ++ drop (8 * length values) answer)
 

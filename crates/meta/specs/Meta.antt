@@ -129,16 +129,7 @@ pub record InRange (m : Meta) : Type 0 where
   pub «freelist_page» : m .«freelist_page» < 2 ^ 64
   pub «tx_id» : m .«tx_id» < 2 ^ 64
 
--- 01's number of an answer; a refusal has no other values
-abbrev pub readNumber : MetaRead → ℕ
-readNumber (Read m) = 0
-readNumber (NotRead number) = number
-
-abbrev pub writtenNumber : MetaWritten → ℕ
-writtenNumber (Written hash) = 0
-writtenNumber (NotWritten number) = number
-
--- the number, and the ten fields in their order
+-- 01's number of an answer, and its values; a refusal has none. Reading: the ten fields in their order
 abbrev pub readFields : MetaRead → List ℕ
 readFields (Read m) =
     0

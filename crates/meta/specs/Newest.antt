@@ -1,4 +1,5 @@
--- The newest meta of an image (the crate's `DB::meta`): with the page size given or found, the newer of the two meta pages that count.
+-- The newest meta of an image (the crate's `DB::meta`, without the metas of files before 0.11): with the page size given or found, the newer of the
+-- two meta pages that count.
 -- Assumes nothing.
 use mathlib.Core.Bool.{Bool, true, false, cond}
 use mathlib.Core.List.{List, [], _∷_}
@@ -79,7 +80,7 @@ newestOf image p =
 unfoldable pub sizeUsed : List ℕ → ℕ → ℕ
 sizeUsed image p = p orSize sizeFound image
 
--- the number of an answer, and its fields: meta_page, pagesize, root_page, next_int, num_pages, freelist_page, tx_id
+-- the number of an answer, and its fields: the page that the meta was taken from, pagesize, root_page, next_int, num_pages, freelist_page, tx_id
 abbrev pub newestFields : Newest → List ℕ
 newestFields (Taken place m) =
     0 ∷ place ∷ m .pagesize ∷ m .«root_page» ∷ m .«next_int» ∷ m .«num_pages» ∷ m .«freelist_page» ∷ m .«tx_id» ∷ []

@@ -30,9 +30,9 @@ sizeOf P b =
     (cond (ltb nodeLimit (sizeIn b)) (measure.Refused 15 0) (measure.Bytes (sizeIn b) (pagesNeeded (sizeIn b) P)))
 
 -- `needs_merging`: wanted with fewer than 2 entries, or a size below P / 4, rounded down
-abbrev pub orUnjudged : Verdict → Merging → Merging
-orUnjudged Sound a = a
-orUnjudged (Breach number element) a = merging.Refused number element
+abbrev pub orUnasked : Verdict → Merging → Merging
+orUnasked Sound a = a
+orUnasked (Breach number element) a = merging.Refused number element
 
 unfoldable pub needsMergingOf : ℕ → List ℕ → Merging
-needsMergingOf P b = orUnjudged (lentCheckOf P b) (merging.Wanted (ltb (countOf b) 2 || ltb (sizeIn b) (P / 4)))
+needsMergingOf P b = orUnasked (lentCheckOf P b) (merging.Wanted (ltb (countOf b) 2 || ltb (sizeIn b) (P / 4)))

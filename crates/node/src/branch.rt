@@ -1,4 +1,4 @@
-// The insertion in a branch: in place of the entry with an original key, or of a new one.
+// The insertion in a branch: of an entry in place of the one with an original key, or of one more.
 ghost use mathlib.Core.Path.{_≡_};
 ghost use mathlib.Core.Bool.{true, false};
 ghost use mathlib.Core.List.{[]};
@@ -112,7 +112,7 @@ fn add_branch(b: &[u8], p: usize, key: &[u8], child: u64, out: &mut [u8]) -> Edi
     put(b, false, p, child, key, &key[0..0], out)
 }
 
-// Writes a lent branch with an entry put in order, in place of the one with the original key if it has one.
+// Writes a lent branch with an entry put in order, or, where there is an original key, in place of the one that has it.
 pub fn insert_branch(
     b: &[u8],
     p: usize,

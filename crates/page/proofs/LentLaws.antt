@@ -15,7 +15,7 @@ use Rattle.page.specs.Layout.{isLeaf}
 use Rattle.page.specs.PageRules.{checkOf, lengthBad, lentHeaderBad, lentCheckOf, SoundBlock}
 use Rattle.field.specs.Sizes.{sizeAllowed}
 use Rattle.page.proofs.TestLaws.{eqb-same, and-both}
-use Rattle.page.proofs.RuleLaws.{unless-sound, check-sound, sound-check, sound-weaker}
+use Rattle.page.proofs.RuleLaws.{breachIf-sound, check-sound, sound-check, sound-weaker}
 
 -- a whole number of pages, and one at least
 pub record LengthGood (P : ℕ) (b : List ℕ) : Type 0 where
@@ -72,8 +72,8 @@ module _ (P : ℕ) (b : List ℕ) where
   unfolding lentCheckOf
   lent-iff = (
     λ e.
-        let first = unless-sound _ _ _ e in
-        let then = unless-sound _ _ _ (first .1) in
+        let first = breachIf-sound _ _ _ e in
+        let then = breachIf-sound _ _ _ (first .1) in
         (first .0, then .0, check-sound (isLeaf b) (isLeaf b) b (then .1)),
     λ h. rw (h .0, h .1) (sound-check (isLeaf b) (isLeaf b) b (h .2)),
   )

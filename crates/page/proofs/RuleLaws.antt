@@ -17,7 +17,7 @@ use Rattle.field.specs.Order.{orderOf}
 use Rattle.page.specs.declared.rules.Verdict.{Verdict}
 use Rattle.page.specs.declared.rules.Verdict.the-variants.{Sound, Breach}
 use Rattle.page.specs.Layout.{idOf, overflowOf, isBranch, countOf, elementSize, elementAt, posOf, keySize, valueSize, tableEnd, isLeaf, keyAt, valueAt, valueEnd, keyOf}
-use Rattle.page.specs.PageRules.{headerBad, andThen, unless, firstBad, outside, tableBad, elementBad, keyBad, kindBad, kindBadAt, isLower, checkOf, SoundBlock}
+use Rattle.page.specs.PageRules.{headerBad, andThen, breachIf, firstBad, outside, tableBad, elementBad, keyBad, kindBad, kindBadAt, isLower, checkOf, SoundBlock}
 use Rattle.page.proofs.TestLaws.{ltb-same, and-both, or-neither}
 
 -- ---- the first bad element, from i on and below n
@@ -117,9 +117,9 @@ pub and-sound : (v w : Verdict) → andThen v w ≡ Sound → (v ≡ Sound) × (
 and-sound Sound w e = (refl, e)
 and-sound (Breach r i) w e = absurd (let z : _≡_ {A = ℕ} 0 1 = cc in omega arith)
 
-pub unless-sound : (bad : Bool) (number : ℕ) (v : Verdict) → unless bad number v ≡ Sound → (bad ≡ false) × (v ≡ Sound)
-unless-sound true number v e = absurd (let z : _≡_ {A = ℕ} 0 1 = cc in omega arith)
-unless-sound false number v e = (refl, e)
+pub breachIf-sound : (bad : Bool) (number : ℕ) (v : Verdict) → breachIf bad number v ≡ Sound → (bad ≡ false) × (v ≡ Sound)
+breachIf-sound true number v e = absurd (let z : _≡_ {A = ℕ} 0 1 = cc in omega arith)
+breachIf-sound false number v e = (refl, e)
 
 not-lower : (o : Order) → not (isLower o) ≡ false → o ≡ Lower
 not-lower Lower e = refl
@@ -158,7 +158,7 @@ module _ (leaf emptyOk : Bool) (b : List ℕ) where
   pub check-sound : checkOf leaf emptyOk b ≡ Sound → SoundBlock leaf emptyOk b
   unfolding checkOf keyBad
   check-sound e =
-      let first = unless-sound _ _ _ e in
+      let first = breachIf-sound _ _ _ e in
       let table = table-good leaf emptyOk b (first .0) in
       let rest = and-sound _ _ (first .1) in
       let good : (i : ℕ) → i < countOf b → (tableEnd leaf b ≤ keyAt leaf b i) × (valueEnd leaf b i ≤ length b) × (kindBadAt leaf b i ≡ false) =

@@ -22,8 +22,8 @@ andThen Sound v = v
 andThen (Breach number element) v = Breach number element
 
 -- a breach that names no element, where there is one
-abbrev pub unless : Bool → ℕ → Verdict → Verdict
-unless bad number v = cond bad (Breach number 0) v
+abbrev pub breachIf : Bool → ℕ → Verdict → Verdict
+breachIf bad number v = cond bad (Breach number 0) v
 
 -- the first of the k elements from i on that is bad, as a breach with this number
 unfoldable pub firstBad : (ℕ → Bool) → ℕ → ℕ → ℕ → Verdict
@@ -70,7 +70,7 @@ keyBad leaf b i = not (isLower (orderOf (keyOf leaf b (i - 1)) (keyOf leaf b i))
 -- ---- rules 5 to 7 of a block
 unfoldable pub checkOf : Bool → Bool → List ℕ → Verdict
 checkOf leaf emptyOk b =
-    unless (tableBad leaf emptyOk b) 4
+    breachIf (tableBad leaf emptyOk b) 4
     (andThen (firstBad (elementBad leaf b) 5 (countOf b) 0) (firstBad (keyBad leaf b) 6 (countOf b - 1) 1))
 
 -- a block that keeps rules 5 to 7
@@ -91,4 +91,4 @@ abbrev pub lentHeaderBad : ℕ → List ℕ → Bool
 lentHeaderBad P b = not ((isBranch b || isLeaf b) && eqb ((overflowOf b + 1) * P) (length b))
 
 unfoldable pub lentCheckOf : ℕ → List ℕ → Verdict
-lentCheckOf P b = unless (lengthBad P b) 1 (unless (lentHeaderBad P b) 3 (checkOf (isLeaf b) (isLeaf b) b))
+lentCheckOf P b = breachIf (lengthBad P b) 1 (breachIf (lentHeaderBad P b) 3 (checkOf (isLeaf b) (isLeaf b) b))

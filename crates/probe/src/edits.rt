@@ -8,7 +8,7 @@ ghost use Rattle.page.specs.Layout.{idOf};
 ghost use Rattle.node.specs.Numbers.{editedFields, deletedFields, unsizedFields, sizedFields};
 ghost use Rattle.node.specs.Measure.{sizeOf, needsMergingOf};
 ghost use Rattle.node.specs.Edit.{output, newLeafOf, newBranchOf, insertOf, deleteOf, deletedAnswer, insertBranchOf};
-ghost use Rattle.node.specs.Edit.{answer as edited};
+ghost use Rattle.node.specs.Edit.{answer as editedOf};
 ghost use Rattle.probe.specs.Probe.{Ordered};
 use super::search::bit;
 use answer::give;
@@ -122,8 +122,8 @@ pub extern "C" fn tyvarmos_size(block: &[u8], p: usize, answer: &mut [u8]) -> u6
 // The number of `new_leaf`'s answer, whose fields stand in `answer`: bytes written, page, element.
 #[no_mangle]
 pub extern "C" fn tyvarmos_new_leaf(p: usize, id: u64, out: &mut [u8], answer: &mut [u8]) -> u64
-    ensures { λ r. ⌜ (r ≡ toldNumber (editedFields (edited true p (newLeafOf p (now (out .entry))))) (now (answer .entry)))
-        × (now (answer .exit) ≡ toldAnswer (editedFields (edited true p (newLeafOf p (now (out .entry))))) (now (answer .entry)))
+    ensures { λ r. ⌜ (r ≡ toldNumber (editedFields (editedOf true p (newLeafOf p (now (out .entry))))) (now (answer .entry)))
+        × (now (answer .exit) ≡ toldAnswer (editedFields (editedOf true p (newLeafOf p (now (out .entry))))) (now (answer .entry)))
         × (now (out .exit) ≡ lentWith 3 (now (answer .entry)) (now (out .entry)) (output true id p (now (out .entry)) (newLeafOf p (now (out .entry))))) ⌝ }
 {
     if answer.len() / 8 < EDITED_FIELDS {
@@ -143,8 +143,8 @@ pub extern "C" fn tyvarmos_new_branch(
     out: &mut [u8],
     answer: &mut [u8],
 ) -> u64
-    ensures { λ r. ⌜ (r ≡ toldNumber (editedFields (edited false p (newBranchOf p (now (key .entry)) child (now (out .entry))))) (now (answer .entry)))
-        × (now (answer .exit) ≡ toldAnswer (editedFields (edited false p (newBranchOf p (now (key .entry)) child (now (out .entry))))) (now (answer .entry)))
+    ensures { λ r. ⌜ (r ≡ toldNumber (editedFields (editedOf false p (newBranchOf p (now (key .entry)) child (now (out .entry))))) (now (answer .entry)))
+        × (now (answer .exit) ≡ toldAnswer (editedFields (editedOf false p (newBranchOf p (now (key .entry)) child (now (out .entry))))) (now (answer .entry)))
         × (now (out .exit) ≡ lentWith 3 (now (answer .entry)) (now (out .entry)) (output false id p (now (out .entry)) (newBranchOf p (now (key .entry)) child (now (out .entry))))) ⌝ }
 {
     if answer.len() / 8 < EDITED_FIELDS {
@@ -175,8 +175,8 @@ pub extern "C" fn tyvarmos_insert(
     out: &mut [u8],
     answer: &mut [u8],
 ) -> u64
-    ensures { λ r. ⌜ (r ≡ toldNumber (editedFields (edited true p (insertOf p (now (block .entry)) (now (key .entry)) kind (now (value .entry)) (now (out .entry))))) (now (answer .entry)))
-        × (now (answer .exit) ≡ toldAnswer (editedFields (edited true p (insertOf p (now (block .entry)) (now (key .entry)) kind (now (value .entry)) (now (out .entry))))) (now (answer .entry)))
+    ensures { λ r. ⌜ (r ≡ toldNumber (editedFields (editedOf true p (insertOf p (now (block .entry)) (now (key .entry)) kind (now (value .entry)) (now (out .entry))))) (now (answer .entry)))
+        × (now (answer .exit) ≡ toldAnswer (editedFields (editedOf true p (insertOf p (now (block .entry)) (now (key .entry)) kind (now (value .entry)) (now (out .entry))))) (now (answer .entry)))
         × (now (out .exit) ≡ lentWith 3 (now (answer .entry)) (now (out .entry))
         (output true (idOf (now (block .entry))) p (now (out .entry)) (insertOf p (now (block .entry)) (now (key .entry)) kind (now (value .entry)) (now (out .entry))))) ⌝ }
 {
@@ -221,9 +221,9 @@ pub extern "C" fn tyvarmos_insert_branch(
     out: &mut [u8],
     answer: &mut [u8],
 ) -> u64
-    ensures { λ r. ⌜ (r ≡ toldNumber (editedFields (edited false p
+    ensures { λ r. ⌜ (r ≡ toldNumber (editedFields (editedOf false p
         (insertBranchOf p (now (block .entry)) (not (eqb has 0)) (now (original .entry)) (now (key .entry)) child (now (out .entry))))) (now (answer .entry)))
-        × (now (answer .exit) ≡ toldAnswer (editedFields (edited false p
+        × (now (answer .exit) ≡ toldAnswer (editedFields (editedOf false p
         (insertBranchOf p (now (block .entry)) (not (eqb has 0)) (now (original .entry)) (now (key .entry)) child (now (out .entry))))) (now (answer .entry)))
         × (now (out .exit) ≡ lentWith 3 (now (answer .entry)) (now (out .entry)) (output false (idOf (now (block .entry))) p (now (out .entry))
         (insertBranchOf p (now (block .entry)) (not (eqb has 0)) (now (original .entry)) (now (key .entry)) child (now (out .entry))))) ⌝ }

@@ -74,7 +74,7 @@ pub extern "C" fn tyvarmos_judge(
     }
 }
 
-// The number of the newest meta's answer, whose fields stand in `answer`: meta_page, pagesize, root_page, next_int, num_pages, freelist_page, tx_id.
+// The number of the newest meta's answer, whose fields stand in `answer`: the page it was taken from, pagesize, root_page, next_int, num_pages, freelist_page, tx_id.
 #[no_mangle]
 pub extern "C" fn tyvarmos_meta(image: &[u8], p: usize, answer: &mut [u8]) -> u64
     ensures { λ r. ⌜ (r ≡ toldNumber (newestFields (newestOf (now (image .entry)) p)) (now (answer .entry)))

@@ -1,4 +1,4 @@
--- The pieces of a node: joined they are its entries in order, there is one more than there are cuts, each has at least 2 entries, and each is a
+-- The pieces of a node: joined they are its entries in order, there is one more than there are cuts, each has at least 2 entries where the node has, and each is a
 -- part of the entries.
 -- Cuts stand 2 or more apart, since the count restarts at each and the run stops before the last two entries. Assumes nothing.
 use mathlib.Core.Path.{_≡_, refl, sym, ap, _∙_}

@@ -67,7 +67,7 @@ abbrev pub writtenOf : Bool → ℕ → ℕ → ℕ → List (List Entry) → Li
 writtenOf leaf P N size pieces pages room =
     writtenIf (listGood N pages (spansOf leaf P pieces)) size (bytesIn P (spansOf leaf P pieces)) room (length pieces)
 
--- N and the lent check come first
+-- the lent check comes first
 abbrev pub orNotWritten : Verdict → Written → Written
 orNotWritten Sound a = a
 orNotWritten (Breach number element) a = Refused number element
@@ -76,7 +76,7 @@ orNotWritten (Breach number element) a = Refused number element
 abbrev pub blockPieces : ℕ → List ℕ → List (List Entry)
 blockPieces P b = piecesOf (isLeaf b) P (entriesOf (isLeaf b) b)
 
--- `split_write` of a lent block
+-- `split_write` of a lent block: N is tried before all else
 unfoldable pub splitWriteOf : ℕ → ℕ → List ℕ → List ℕ → ℕ → Written
 splitWriteOf P N b pages room =
     cond (countAllowed N)

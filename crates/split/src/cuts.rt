@@ -21,7 +21,7 @@ use size::NODE_LIMIT;
 use size::entry_size;
 use size::node_size;
 
-// The fewest entries that a piece has.
+// A cut is made only after so many entries.
 const MIN_KEYS_PER_NODE: usize = 2;
 
 // What `split` answers: how many cuts it wrote, or a refusal with 01's number and the element.

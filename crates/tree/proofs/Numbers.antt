@@ -12,7 +12,7 @@ use lib.ListN.{length, drop}
 use Rattle.page.specs.declared.rules.Verdict.{Verdict}
 use Rattle.page.specs.declared.rules.Verdict.the-variants as verdict
 use Rattle.page.specs.Layout.{countOf, isLeaf}
-use Rattle.page.specs.PageRules.{andThen, unless, firstBad, tableBad, elementBad, keyBad, headerBad, blockOf, checkOf}
+use Rattle.page.specs.PageRules.{andThen, breachIf, firstBad, tableBad, elementBad, keyBad, headerBad, blockOf, checkOf}
 use Rattle.page.proofs.FirstBreach.{breach-first}
 use Rattle.walk.specs.Tree.{Key, Item, View, bad, branch, leaf, keys, memb, inside, firstOut, unlessOut, next, Walker, pass, fault, andThen as thenWalk, walkAll, walkPage, walk, Verdict as Walk}
 use Rattle.tree.specs.declared.lookup.Value.{Value}
@@ -29,9 +29,9 @@ use Rattle.tree.proofs.Demand3.{never-refused}
 abbrev Numbered : Verdict → Type 0
 Numbered v = (r i : ℕ) → v ≡ verdict.Breach r i → 0 < r
 
-unless-numbered : (t : Bool) (k : ℕ) (v : Verdict) → 0 < k → Numbered v → Numbered (unless t k v)
-unless-numbered true k v l n r i e = let u : k ≡ r = cc in omega arith
-unless-numbered false k v l n r i e = n r i e
+breachIf-numbered : (t : Bool) (k : ℕ) (v : Verdict) → 0 < k → Numbered v → Numbered (breachIf t k v)
+breachIf-numbered true k v l n r i e = let u : k ≡ r = cc in omega arith
+breachIf-numbered false k v l n r i e = n r i e
 
 then-numbered : (v w : Verdict) → Numbered v → Numbered w → Numbered (andThen v w)
 then-numbered verdict.Sound w n m r i e = m r i e
@@ -43,7 +43,7 @@ first-numbered test number k j l r i e = let h = breach-first test number k j r 
 check-numbered : (isLeaf emptyOk : Bool) (b : List ℕ) → Numbered (checkOf isLeaf emptyOk b)
 unfolding checkOf
 check-numbered isLeaf emptyOk b =
-    unless-numbered (tableBad isLeaf emptyOk b) 4 _ (omega arith)
+    breachIf-numbered (tableBad isLeaf emptyOk b) 4 _ (omega arith)
     (then-numbered (firstBad (elementBad isLeaf b) 5 (countOf b) 0) (firstBad (keyBad isLeaf b) 6 (countOf b - 1) 1)
     (first-numbered (elementBad isLeaf b) 5 (countOf b) 0 (omega arith)) (first-numbered (keyBad isLeaf b) 6 (countOf b - 1) 1 (omega arith)))
 
@@ -51,10 +51,10 @@ list-numbered : (image : List ℕ) (P N f : ℕ) (vs : List ℕ) → Numbered (f
 unfolding freelistOf idsOf
 list-numbered image P N f vs =
     let b : List ℕ = blockOf image P f in
-    unless-numbered (not (inside N f)) 2 _ (omega arith)
-    (unless-numbered (memb f vs) 8 _ (omega arith)
-    (unless-numbered (freeHeaderBad N f (drop (f * P) image)) 3 _ (omega arith)
-    (unless-numbered (ltb (length b) (32 + 8 * countOf b)) 4 _ (omega arith)
+    breachIf-numbered (not (inside N f)) 2 _ (omega arith)
+    (breachIf-numbered (memb f vs) 8 _ (omega arith)
+    (breachIf-numbered (freeHeaderBad N f (drop (f * P) image)) 3 _ (omega arith)
+    (breachIf-numbered (ltb (length b) (32 + 8 * countOf b)) 4 _ (omega arith)
     (then-numbered (firstBad (idOutside N b) 5 (countOf b) 0) _ (first-numbered (idOutside N b) 5 (countOf b) 0 (omega arith))
     (then-numbered (firstBad (idNotAbove b) 6 (countOf b - 1) 1) (firstBad (idMarked (f ∷ vs) b) 8 (countOf b) 0)
     (first-numbered (idNotAbove b) 6 (countOf b - 1) 1 (omega arith)) (first-numbered (idMarked (f ∷ vs) b) 8 (countOf b) 0 (omega arith)))))))

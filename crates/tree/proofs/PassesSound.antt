@@ -15,7 +15,7 @@ use Rattle.page.specs.declared.rules.Verdict.{Verdict}
 use Rattle.page.specs.declared.rules.Verdict.the-variants as verdict
 use Rattle.page.specs.Layout.{idOf, typeOf, countOf, overflowOf}
 use Rattle.page.specs.PageRules.{firstBad, blockOf}
-use Rattle.page.proofs.RuleLaws.{none-bad, bad-none-at, and-sound, unless-sound}
+use Rattle.page.proofs.RuleLaws.{none-bad, bad-none-at, and-sound, breachIf-sound}
 use Rattle.page.proofs.TestLaws.{and-both, or-neither}
 use Rattle.walk.specs.Tree.{pass, fault, walk, inside, memb, Verdict as Walk}
 use Rattle.walk.proofs.SoundLaws as walk-laws
@@ -123,12 +123,12 @@ module _ (image : List ℕ) (P N root f n : ℕ) (vs : List ℕ) (walked : walk 
   pub listed-sound : freelistOf image P N f vs ≡ verdict.Sound → SoundFreelist image P N root f
   unfolding freelistOf freeHeaderBad idsOf
   listed-sound e =
-      let u2 = unless-sound _ 2 _ e in
-      let u8 = unless-sound (memb f vs) 8 _ (u2 .1) in
-      let u3 = unless-sound (freeHeaderBad N f s) 3 _ (u8 .1) in
+      let u2 = breachIf-sound _ 2 _ e in
+      let u8 = breachIf-sound (memb f vs) 8 _ (u2 .1) in
+      let u3 = breachIf-sound (freeHeaderBad N f s) 3 _ (u8 .1) in
       let h0 = or-neither (not (eqb (idOf s) f)) _ (u3 .0) in
       let h1 = or-neither (not (eqb (typeOf s) 4)) (leb N (f + overflowOf s)) (h0 .1) in
-      let u4 = unless-sound (ltb (length b) (32 + 8 * countOf b)) 4 _ (u3 .1) in
+      let u4 = breachIf-sound (ltb (length b) (32 + 8 * countOf b)) 4 _ (u3 .1) in
       let a5 = and-sound (firstBad (idOutside N b) 5 (countOf b) 0) _ (u4 .1) in
       let a6 = and-sound (firstBad (idNotAbove b) 6 (countOf b - 1) 1) (firstBad (idMarked (f ∷ vs) b) 8 (countOf b) 0) (a5 .1) in
       let w = within f (not-false _ (u2 .0)) in

@@ -11,7 +11,7 @@ use Rattle.field.specs.Field.{field}
 use Rattle.page.specs.declared.rules.Verdict.{Verdict}
 use Rattle.page.specs.declared.rules.Verdict.the-variants as verdict
 use Rattle.page.specs.Layout.{idOf, typeOf, countOf, overflowOf}
-use Rattle.page.specs.PageRules.{andThen, unless, firstBad, blockOf}
+use Rattle.page.specs.PageRules.{andThen, breachIf, firstBad, blockOf}
 use Rattle.walk.specs.Tree.{pass, fault, walk, inside, memb, Verdict as Walk}
 use Rattle.tree.specs.declared.judge.Judged.{Judged}
 use Rattle.tree.specs.declared.judge.Judged.the-variants.{Sound, Refused}
@@ -43,16 +43,16 @@ idMarked marked b i = memb (idAt b i) marked
 -- rule 5 with ids of 8 bytes, count 0 allowed; then the ids, each rule over all before the next
 unfoldable pub idsOf : ℕ → List ℕ → List ℕ → Verdict
 idsOf N marked b =
-    unless (ltb (length b) (32 + 8 * countOf b)) 4
+    breachIf (ltb (length b) (32 + 8 * countOf b)) 4
     (andThen (firstBad (idOutside N b) 5 (countOf b) 0)
     (andThen (firstBad (idNotAbove b) 6 (countOf b - 1) 1) (firstBad (idMarked marked b) 8 (countOf b) 0)))
 
 -- rules 2 and 3, then 4, then its block; its own page is marked before its ids are tried
 unfoldable pub freelistOf : List ℕ → ℕ → ℕ → ℕ → List ℕ → Verdict
 freelistOf image P N f vs =
-    unless (not (inside N f)) 2
-    (unless (memb f vs) 8
-    (unless (freeHeaderBad N f (drop (f * P) image)) 3 (idsOf N (f ∷ vs) (blockOf image P f))))
+    breachIf (not (inside N f)) 2
+    (breachIf (memb f vs) 8
+    (breachIf (freeHeaderBad N f (drop (f * P) image)) 3 (idsOf N (f ∷ vs) (blockOf image P f))))
 
 -- ---- the whole image
 abbrev pub judgedOf : Verdict → ℕ → ℕ → ℕ → Judged
