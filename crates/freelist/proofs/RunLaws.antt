@@ -8,12 +8,13 @@ use Prim.Native.Nat.{ℕ, zero, suc, _+_, _-_, _*_, _/_, _%_, _≤_, _<_}
 use native.Mathlib.Nat.{eq-or-lt-of-le, add-mul, mod-lt, div-add-mod', div-lt-self, le-div-iff-mul-le}
 use native.Mathlib.Omega.{arith}
 use borrow.Author.Tests.{le-leb, lt-leb, leb-true}
-use lib.Arith.{digits-div}
+use lib.Arith.{digits-div, lt-of-le-ne}
 use lib.Dec.{leb}
+use lib.ListN.{getD}
 use Rattle.field.proofs.BitLaws.{lt-or-le}
 use Rattle.freelist.specs.declared.table.State.{State}
 use Rattle.freelist.specs.declared.table.State.the-variants.{InUse, Free, Pending, Broken}
-use Rattle.freelist.specs.Table.{stateOf, isFree}
+use Rattle.freelist.specs.Table.{bit, stateFrom, stateOf, isState, isFree}
 use Rattle.freelist.specs.Pages.{row, all, first}
 use Rattle.freelist.specs.Freelist.{run, FreeRun, lowest, pagesNeeded}
 use Rattle.freelist.proofs.PageLaws.{clash, and-parts, row-next, row-none, in-row, all-row-of, all-row-at, all-not}
@@ -85,6 +86,17 @@ free-is Free e = refl
 free-is (Pending x) e = absurd (clash e refl)
 free-is Broken e = absurd (clash e refl)
 
+-- a page that is in one of the three states is free where its free bit is on
+free-digit : (a b : Bool) (x : ℕ) → isState (stateFrom a b x) ≡ true → isFree (stateFrom a b x) ≡ a
+free-digit true true x e = e
+free-digit true false x e = refl
+free-digit false true x e = refl
+free-digit false false x e = refl
+
+pub free-bit : (t : List ℕ) (i : ℕ) → isState (stateOf t i) ≡ true → isFree (stateOf t i) ≡ bit t i
+unfolding stateOf
+free-bit t i h = free-digit (bit t i) (bit t (32768 + i)) (getD t (1024 + i) 0) h
+
 module _ (t : List ℕ) (n pages : ℕ) where
   run-on : (s : ℕ) → s + pages ≤ n → ((j : ℕ) → s ≤ j → j < s + pages → free t j ≡ true) → run t n pages s ≡ true
   unfolding run
@@ -111,30 +123,31 @@ module _ (t : List ℕ) (n pages : ℕ) where
   unfolding lowest
   scan-start l m = record { from = omega arith; to = l; less = m; free = λ j a b. absurd (omega arith); left = refl }
 
-  pub scan-longer : (i len : ℕ) → Scan i len → i < n → free t i ≡ true → len + 1 < pages → Scan (i + 1) (len + 1)
-  scan-longer i len s l h m =
+  -- a turn, after which r free pages end with page i: they are as many as are sought, or the scan goes on
+  pub scan-found : (i len r : ℕ) (b : Bool) → Scan i len → i < n → free t i ≡ b → r ≡ cond b (len + 1) 0 → r ≡ pages → i + 1 - r ≡ lowest t n pages
+  scan-found i len r true s l h e m =
       let f = s .from in
-      let e : i - len ≡ i + 1 - (len + 1) = omega arith in
+      let d : i - len ≡ i + 1 - r = omega arith in
+      let on = run-on (i - len) (omega arith) (λ j a b. ⊎-elim (λ q. ap (free t) q ∙ h) (λ q. s .free j (omega arith) q) (eq-or-lt-of-le (omega arith))) in
+      sym (s .left ∙ first-here (run t n pages) n n (i - len) (omega arith) on ∙ d)
+  scan-found i len r false s l h e m = absurd (omega (arith, s .less))
+
+  pub scan-next : (i len r : ℕ) (b : Bool) → Scan i len → i < n → free t i ≡ b → r ≡ cond b (len + 1) 0 → (r ≡ pages → ⊥) → Scan (i + 1) r
+  scan-next i len r true s l h e m =
+      let f = s .from in
+      let o = s .less in
+      let d : i - len ≡ i + 1 - r = omega arith in
       record {
         from = omega arith;
         to = omega arith;
-        less = m;
+        less = lt-of-le-ne (omega arith) m;
         free = λ j a b. ⊎-elim (λ q. ap (free t) q ∙ h) (λ q. s .free j (omega arith) q) (eq-or-lt-of-le (omega arith));
-        left = s .left ∙ ap (λ (x : ℕ). first (run t n pages) n (row x (n - x))) e;
+        left = s .left ∙ ap (λ (x : ℕ). first (run t n pages) n (row x (n - x))) d;
       }
-
-  pub scan-found : (i len : ℕ) → Scan i len → i < n → free t i ≡ true → len + 1 ≡ pages → i + 1 - (len + 1) ≡ lowest t n pages
-  scan-found i len s l h m =
+  scan-next i len r false s l h e m =
       let f = s .from in
-      let e : i - len ≡ i + 1 - (len + 1) = omega arith in
-      let on = run-on (i - len) (omega arith) (λ j a b. ⊎-elim (λ q. ap (free t) q ∙ h) (λ q. s .free j (omega arith) q) (eq-or-lt-of-le (omega arith))) in
-      sym (s .left ∙ first-here (run t n pages) n n (i - len) (omega arith) on ∙ e)
-
-  pub scan-broken : (i len : ℕ) → Scan i len → i < n → free t i ≡ false → Scan (i + 1) 0
-  scan-broken i len s l h =
-      let f = s .from in
-      let m = s .less in
-      let e : i - len + (len + 1) ≡ i + 1 - 0 = omega arith in
+      let o = s .less in
+      let d : i - len + (len + 1) ≡ i + 1 - r = omega arith in
       record {
         from = omega arith;
         to = omega arith;
@@ -142,7 +155,7 @@ module _ (t : List ℕ) (n pages : ℕ) where
         free = λ j a b. absurd (omega arith);
         left =
             s .left ∙ first-skip (run t n pages) n n (len + 1) (i - len) (omega arith) (λ j a b. run-off j i (omega arith) (omega arith) h)
-            ∙ ap (λ (x : ℕ). first (run t n pages) n (row x (n - x))) e;
+            ∙ ap (λ (x : ℕ). first (run t n pages) n (row x (n - x))) d;
       }
 
   pub scan-end : (i len : ℕ) → Scan i len → n ≤ i → n ≡ lowest t n pages

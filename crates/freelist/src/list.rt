@@ -2,9 +2,10 @@
 ghost use mathlib.Core.Path.{_≡_};
 ghost use Prim.Native.Nat.{ℕ, _<_, _≤_};
 ghost use lib.ListN.{length, getD};
-ghost use Rattle.freelist.specs.Table.{isListed};
+ghost use Rattle.freelist.specs.Table.{stateOf, isListed};
 ghost use Rattle.freelist.specs.Freelist.{initial, initNumber, initTable, listing, pagesList};
 use super::check::fault;
+use super::table::PENDING_WORDS;
 use super::table::State;
 use super::table::is_in_use;
 use super::table::put_state;
@@ -60,16 +61,14 @@ pub fn free_each(t: &mut [u64], ids: &[u64])
     }
 }
 
-// Whether `s` is free or pending.
-fn is_listed(s: State) -> bool
-    ensures { λ r. ⌜ r ≡ isListed s ⌝ }
+// Whether page `k` is free or pending: one of its two bits is on, and not both.
+fn is_listed(t: &[u64], k: u64) -> bool
+    requires { ⌜ (k < 32768) × (33792 ≤ length (now t)) ⌝ }
+    ensures { λ r. ⌜ r ≡ isListed (stateOf (now (t .entry)) k) ⌝ }
 {
-    match s {
-        State::InUse => false,
-        State::Free => true,
-        State::Pending(_) => true,
-        State::Broken => false,
-    }
+    let at = (k / 64) as usize;
+    let one = t[at] ^ t[PENDING_WORDS + at];
+    (one >> (k % 64)) % 2 == 1
 }
 
 // How many of the pages from 2 to n - 1 are free or pending.
@@ -80,7 +79,7 @@ pub fn count_listed(t: &[u64], n: u64) -> u64
     let mut count = 0;
     let mut i = 2;
     while i < n {
-        if is_listed(state_of(t, i)) {
+        if is_listed(t, i) {
             count += 1;
             i += 1;
         } else {
@@ -98,7 +97,7 @@ pub fn write_listed(t: &[u64], n: u64, ids: &mut [u64])
     let mut at = 0;
     let mut i = 2;
     while i < n {
-        if is_listed(state_of(t, i)) {
+        if is_listed(t, i) {
             ids[at] = i;
             at += 1;
             i += 1;

@@ -1,13 +1,13 @@
 // Runs of free pages: how many pages are needed, and the lowest run of so many.
 ghost use mathlib.Core.Path.{_≡_};
-ghost use Prim.Native.Nat.{_≤_};
+ghost use mathlib.Core.Bool.{true, cond};
+ghost use Prim.Native.Nat.{ℕ, _+_, _<_, _≤_};
 ghost use lib.ListN.{length};
-ghost use Rattle.freelist.specs.Table.{isFree};
+ghost use Rattle.freelist.specs.Table.{stateOf, isState};
 ghost use Rattle.freelist.specs.Freelist.{requestFault, pagesNeeded, lowest};
 use super::HEADER_SIZE;
 use super::check::fault;
-use super::table::State;
-use super::table::state_of;
+use super::table::bit_of;
 use field::sizes::size_allowed;
 
 // The number that a request for bytes gives by every cause of 1 and 11, 0 where it passes.
@@ -38,35 +38,29 @@ pub fn pages_needed(bytes: u64, page_size: u64) -> u64
     bytes / page_size + 1
 }
 
-// Whether `s` is free.
-fn is_free(s: State) -> bool
-    ensures { λ r. ⌜ r ≡ isFree s ⌝ }
+// How many free pages end with a page, where `len` of them end before it: one more if it is free, and else none.
+fn run_after(len: u64, free: bool) -> u64
+    requires { ⌜ len < 32768 ⌝ }
+    ensures { λ r. ⌜ (r ≡ cond free (len + 1) 0) × (r ≤ len + 1) ⌝ }
 {
-    match s {
-        State::InUse => false,
-        State::Free => true,
-        State::Pending(_) => false,
-        State::Broken => false,
+    if free {
+        return len + 1;
     }
+    0
 }
 
 // The lowest s with pages s to s + pages - 1 all free and inside 2 to n - 1, or else n: `len` free pages end before page i.
 pub fn lowest_run(t: &[u64], n: u64, pages: u64) -> u64
-    requires { ⌜ (2 ≤ n) × (n ≤ 32768) × (1 ≤ pages) × (33792 ≤ length (now t)) ⌝ }
+    requires { ⌜ (2 ≤ n) × (n ≤ 32768) × (1 ≤ pages) × (33792 ≤ length (now t)) × ((k : ℕ) → 2 ≤ k → k < n → isState (stateOf (now t) k) ≡ true) ⌝ }
     ensures { λ r. ⌜ r ≡ lowest (now (t .entry)) n pages ⌝ }
 {
     let mut len = 0;
     let mut i = 2;
     while i < n {
-        if is_free(state_of(t, i)) {
-            i += 1;
-            len += 1;
-            if len == pages {
-                return i - len;
-            }
-        } else {
-            i += 1;
-            len = 0;
+        len = run_after(len, bit_of(t, i));
+        i += 1;
+        if len == pages {
+            return i - len;
         }
     }
     n

@@ -28,7 +28,7 @@ pub enum State {
 }
 
 // Whether bit `j` is on.
-fn bit_of(t: &[u64], j: u64) -> bool
+pub fn bit_of(t: &[u64], j: u64) -> bool
     requires { ⌜ (j < 65536) × (1024 ≤ length (now t)) ⌝ }
     ensures { λ r. ⌜ r ≡ bit (now (t .entry)) j ⌝ }
 {

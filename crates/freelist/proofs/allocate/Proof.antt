@@ -30,7 +30,7 @@ lowest-run-requires c κs =
     let s = r .table in
     let w = r .wide in
     let e = c .before .pages-needed .ensures in
-    (s .from, s .to, omega (arith, needed-some (a .bytes) (a .page-size) (omega arith) (omega (arith, r .some))), s .long)
+    (s .from, s .to, omega (arith, needed-some (a .bytes) (a .page-size) (omega arith) (omega (arith, r .some))), s .long, s .states)
 
 put-all-requires : tie.Need-put-all-requires
 put-all-requires c κs =

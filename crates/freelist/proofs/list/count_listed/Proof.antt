@@ -6,7 +6,6 @@ use native.Mathlib.Omega.{arith}
 use borrow.Author.Needs.{needs}
 use denote.Ref.{now}
 use lib.ListN.{length}
-use Rattle.freelist.specs.Table.{isListed}
 use Rattle.freelist.specs.Freelist.{listing}
 use Rattle.freelist.proofs.ListLaws.{listedFrom, listing-start, listing-few, count-next, count-skip, count-end}
 use Rattle.freelist.proofs.list.count_listed.Statement.{statement}
@@ -22,21 +21,21 @@ loop-holds : tie.Need-loop-holds Inv-loop μ-loop
 loop-holds c = let a = c .before .args in omega (arith, ap length (listing-start (now (a .t)) (a .n)))
 
 add-count : tie.Need-add-count Inv-loop μ-loop
-add-count c = let a = c .before .before .before .before .before .before .args in omega (arith, listing-few (now (a .t)) (a .n))
+add-count c = let a = c .before .before .before .before .before .args in omega (arith, listing-few (now (a .t)) (a .n))
 
 loop-again : tie.Need-loop-again Inv-loop μ-loop
 loop-again c =
-    let a = c .before .before .before .before .before .before .args in
-    let l = c .before .before .before .before .loop in
-    let e = ap isListed (sym (c .before .before .state-of .ensures)) ∙ sym (c .before .is-listed .ensures) ∙ c .if1 .taken in
-    omega (arith, l .inv, count-next (now (a .t)) (a .n) (l .i) (c .before .before .before .loop-test .taken) e)
+    let a = c .before .before .before .before .before .args in
+    let l = c .before .before .before .loop in
+    let e = sym (c .before .is-listed .ensures) ∙ c .if1 .taken in
+    omega (arith, l .inv, count-next (now (a .t)) (a .n) (l .i) (c .before .before .loop-test .taken) e)
 
 loop-again-2 : tie.Need-loop-again-2 Inv-loop μ-loop
 loop-again-2 c =
-    let a = c .before .before .before .before .before .before .args in
-    let l = c .before .before .before .before .loop in
-    let e = ap isListed (sym (c .before .before .state-of .ensures)) ∙ sym (c .before .is-listed .ensures) ∙ c .if1 .left in
-    omega (arith, l .inv, count-skip (now (a .t)) (a .n) (l .i) (c .before .before .before .loop-test .taken) e)
+    let a = c .before .before .before .before .before .args in
+    let l = c .before .before .before .loop in
+    let e = sym (c .before .is-listed .ensures) ∙ c .if1 .left in
+    omega (arith, l .inv, count-skip (now (a .t)) (a .n) (l .i) (c .before .before .loop-test .taken) e)
 
 returns : tie.Need-returns Inv-loop μ-loop
 returns c =
@@ -52,7 +51,6 @@ count-listed-spec =
     Inv-loop
     μ-loop
     loop-holds
-    (λ c κs. search needs)
     (λ c κs. search needs)
     add-count
     (λ c. search needs)

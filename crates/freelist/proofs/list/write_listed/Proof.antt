@@ -7,7 +7,6 @@ use borrow.Author.Needs.{needs}
 use denote.Ref.{now}
 use lib.ListN.{length, length-set}
 use Rattle.field.specs.Run.{putAt}
-use Rattle.freelist.specs.Table.{isListed}
 use Rattle.freelist.specs.Freelist.{listing, pagesList}
 use Rattle.freelist.proofs.ListLaws.{listedFrom, listing-start, count-next, count-skip, write-next, write-skip, write-end}
 use Rattle.freelist.proofs.list.write_listed.Statement.{statement}
@@ -27,12 +26,12 @@ loop-holds c =
     (refl, omega (arith, ap length e), ap (putAt (now (a .ids)) 0) (sym e))
 
 -- the page is listed, so that there is room for it
-room : (c : tie.Then1 Inv-loop μ-loop) → c .before .before .before .before .loop .at + 1 ≤ length (c .before .before .before .before .loop .ids)
+room : (c : tie.Then1 Inv-loop μ-loop) → c .before .before .before .loop .at + 1 ≤ length (c .before .before .before .loop .ids)
 room c =
-    let a = c .before .before .before .before .before .before .before .args in
-    let l = c .before .before .before .before .loop in
-    let e = ap isListed (sym (c .before .before .state-of .ensures)) ∙ sym (c .before .is-listed .ensures) ∙ c .if1 .taken in
-    omega (arith, l .inv .0, l .inv .1, count-next (now (a .t)) (a .n) (l .i) (c .before .before .before .loop-test .taken) e)
+    let a = c .before .before .before .before .before .before .args in
+    let l = c .before .before .before .loop in
+    let e = sym (c .before .is-listed .ensures) ∙ c .if1 .taken in
+    omega (arith, l .inv .0, l .inv .1, count-next (now (a .t)) (a .n) (l .i) (c .before .before .loop-test .taken) e)
 
 slice-write-ids : tie.Need-slice-write-ids Inv-loop μ-loop
 slice-write-ids c = omega (arith, room c)
@@ -42,10 +41,10 @@ add-at c = omega (arith, room c)
 
 loop-again : tie.Need-loop-again Inv-loop μ-loop
 loop-again c =
-    let a = c .before .before .before .before .before .before .before .args in
-    let l = c .before .before .before .before .loop in
-    let b = c .before .before .before .loop-test .taken in
-    let e = ap isListed (sym (c .before .before .state-of .ensures)) ∙ sym (c .before .is-listed .ensures) ∙ c .if1 .taken in (
+    let a = c .before .before .before .before .before .before .args in
+    let l = c .before .before .before .loop in
+    let b = c .before .before .loop-test .taken in
+    let e = sym (c .before .is-listed .ensures) ∙ c .if1 .taken in (
       simp length-set (l .inv .0),
       omega (arith, l .inv .1, count-next (now (a .t)) (a .n) (l .i) b e),
       write-next (now (a .t)) (a .n) (l .i) b (l .ids) (l .at) (omega (arith, room c)) e ∙ l .inv .2,
@@ -53,10 +52,10 @@ loop-again c =
 
 loop-again-2 : tie.Need-loop-again-2 Inv-loop μ-loop
 loop-again-2 c =
-    let a = c .before .before .before .before .before .before .before .args in
-    let l = c .before .before .before .before .loop in
-    let b = c .before .before .before .loop-test .taken in
-    let e = ap isListed (sym (c .before .before .state-of .ensures)) ∙ sym (c .before .is-listed .ensures) ∙ c .if1 .left in (
+    let a = c .before .before .before .before .before .before .args in
+    let l = c .before .before .before .loop in
+    let b = c .before .before .loop-test .taken in
+    let e = sym (c .before .is-listed .ensures) ∙ c .if1 .left in (
       l .inv .0,
       omega (arith, l .inv .1, count-skip (now (a .t)) (a .n) (l .i) b e),
       write-skip (now (a .t)) (a .n) (l .i) b (l .ids) (l .at) e ∙ l .inv .2,
@@ -76,7 +75,6 @@ write-listed-spec =
     Inv-loop
     μ-loop
     loop-holds
-    (λ c κs. search needs)
     (λ c κs. search needs)
     (λ c. search needs)
     slice-write-ids
