@@ -27,12 +27,13 @@ struct Part {
     rounds: usize,
 }
 
-const PARTS: [Part; 12] = [
+const PARTS: [Part; 15] = [
     Part { name: "examples", against: "01's examples", run: parts::examples::run, rounds: 1 },
     Part { name: "refusals", against: "01's rules", run: parts::refusals::run, rounds: 1 },
     Part { name: "answers", against: "01's rules", run: parts::answers::run, rounds: 1 },
     Part { name: "page", against: "the crate", run: parts::page::run, rounds: 1_500 },
     Part { name: "node", against: "the crate", run: parts::node::run, rounds: 1_500 },
+    Part { name: "runs", against: "the crate", run: parts::runs::run, rounds: 400 },
     Part { name: "split", against: "the crate", run: parts::split::run, rounds: 3_000 },
     Part { name: "freelist", against: "the crate", run: parts::freelist::run, rounds: 100 },
     Part { name: "meta", against: "the crate", run: parts::meta::run, rounds: 3_000 },
@@ -40,6 +41,8 @@ const PARTS: [Part; 12] = [
     Part { name: "hostile", against: "the reading", run: parts::hostile::run, rounds: 300 },
     Part { name: "findings", against: "docs/DIFFERENCES.md", run: parts::findings::run, rounds: 1 },
     Part { name: "files", against: "the crate", run: parts::files::run, rounds: 1 },
+    Part { name: "damaged", against: "the reading", run: parts::damaged::run, rounds: 60 },
+    Part { name: "short", against: "the crate", run: parts::short::run, rounds: 1 },
 ];
 
 /// Parts about the reading alone.
@@ -85,7 +88,8 @@ fn compare_all(options: &Options) -> u64 {
     compare(&by_reading::Reading, &READING_PARTS, options, &mut total);
     #[cfg(feature = "proved")]
     compare(&proved::Proved, &PARTS, options, &mut total);
-    println!("{} passed, {} failed, {:.1} s", total.passed, total.failed, start.elapsed().as_secs_f64());
+    println!("{:.1} s in all, seed {}", start.elapsed().as_secs_f64(), options.seed);
+    println!("{} passed, {} failed", total.passed, total.failed);
     total.failed
 }
 

@@ -67,3 +67,13 @@ pub fn unset_cleared(block: &[u8]) -> Vec<u8> {
     cleared[node_size(block) as usize - 8..].fill(0);
     cleared
 }
+
+/// The keys of a block, in its order.
+pub fn keys(block: &[u8]) -> Vec<Vec<u8>> {
+    let place = |i: usize| match block[8] {
+        2 => (32 + 32 * i, get(block, 40 + 32 * i), get(block, 48 + 32 * i)),
+        _ => (32 + 24 * i, get(block, 48 + 24 * i), get(block, 40 + 24 * i)),
+    };
+    let key = |(at, pos, length): (usize, u64, u64)| block[at + pos as usize..][..length as usize].to_vec();
+    (0..get(block, 16) as usize).map(|i| key(place(i))).collect()
+}

@@ -1,6 +1,7 @@
 //! The parts of the comparison. Each asks a subject and holds its answers against the crate, 01's text or the reading.
 
 pub mod answers;
+pub mod damaged;
 pub mod examples;
 pub mod files;
 pub mod findings;
@@ -10,6 +11,8 @@ pub mod meta;
 pub mod node;
 pub mod page;
 pub mod refusals;
+pub mod runs;
+pub mod short;
 pub mod split;
 pub mod tree;
 

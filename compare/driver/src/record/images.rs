@@ -7,9 +7,9 @@ use oracle::probe::search::Image;
 
 use super::tape::{Call, Record, Tape};
 use crate::make::fields::{get, unset_cleared};
-use crate::make::store::{Plan, Store};
+use crate::make::store::Plan;
 use crate::make::{content, tree};
-use crate::parts::files::{descend, open, Temporary, View};
+use crate::parts::files::{descend, open, worked, Temporary, View};
 use crate::rng::Rng;
 
 const PLANS: [Plan; 5] = [
@@ -47,11 +47,7 @@ type Root = (u64, Vec<Vec<u8>>);
 /// A file made after this plan, in the bytes that the crate set, with every tree in it.
 fn made(rng: &mut Rng, plan: &Plan) -> (View, Vec<Root>) {
     let temporary = Temporary::new("record");
-    let mut store = Store::new(plan);
-    let db = open(&temporary.path, plan.pagesize);
-    for _ in 0..plan.steps {
-        store.transact(&db, rng).unwrap();
-    }
+    let (db, store) = worked(rng, plan, &temporary.path);
     let tx = db.tx(false).unwrap();
     let mut view = View::new(&tx, &temporary.path);
     let mut roots = vec![(view.meta.root_page, vec![b"A".to_vec(), b"B".to_vec()])];

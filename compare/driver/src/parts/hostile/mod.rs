@@ -24,7 +24,7 @@ pub fn run(run: &mut Run) {
 }
 
 /// Changes a number or a byte of the block that starts at `at`.
-fn change(rng: &mut Rng, bytes: &mut [u8], at: usize, n: u64) {
+pub fn change(rng: &mut Rng, bytes: &mut [u8], at: usize, n: u64) {
     let size = if bytes[at + 8] == 2 { 32 } else { 24 };
     let count = get(bytes, at + 16).clamp(1, 20) as usize;
     let element = at + 32 + rng.below(count) * size;

@@ -1,0 +1,176 @@
+//! Files made by the crate, then damaged: judge and lookup beside the reading, and where the judge passes a copy, every key of its tree found.
+
+use std::collections::BTreeMap;
+
+use oracle::probe::{file, search};
+use reading::block::page_block;
+use subject::{ask, Subject};
+
+use super::files::{descend, worked, Temporary, View};
+use super::hostile::change;
+use super::Run;
+use crate::by_reading::Reading;
+use crate::make::content;
+use crate::make::store::Plan;
+use crate::rng::Rng;
+
+const PLANS: [Plan; 5] = [
+    Plan { pagesize: 1_024, steps: 12, puts: 20, deletes: 6, keys: 90, value: 60, nested: true },
+    Plan { pagesize: 1_024, steps: 4, puts: 60, deletes: 10, keys: 200, value: 20, nested: false },
+    Plan { pagesize: 1_032, steps: 12, puts: 16, deletes: 6, keys: 60, value: 300, nested: true },
+    Plan { pagesize: 2_200, steps: 10, puts: 30, deletes: 9, keys: 120, value: 200, nested: true },
+    Plan { pagesize: 4_096, steps: 10, puts: 30, deletes: 9, keys: 200, value: 300, nested: true },
+];
+
+/// Copies made of each file.
+const COPIES: usize = 250;
+
+/// A file, or a damaged copy of it, and what is asked about it.
+#[derive(Clone)]
+struct Image {
+    bytes: Vec<u8>,
+    p: u64,
+    n: u64,
+    root: u64,
+    freelist: u64,
+}
+
+/// A file with its trees, each the first pages of its blocks from the root on and then the freelist page, and the keys in them.
+struct Made {
+    image: Image,
+    trees: Vec<Vec<u64>>,
+    keys: Vec<Vec<u8>>,
+}
+
+pub fn run(run: &mut Run) {
+    let (mut copies, mut passed, mut found) = (0, 0, 0);
+    for round in 0..run.rounds {
+        let made = made(&mut run.rng, &PLANS[round % PLANS.len()]);
+        for _ in 0..COPIES {
+            let tree = run.rng.pick(&made.trees);
+            let mut image = Image { root: tree[0], ..made.image.clone() };
+            for _ in 0..run.rng.between(1, 2) {
+                damage(&mut run.rng, &mut image, &tree);
+            }
+            if run.rng.one_in(12) {
+                cut(&mut run.rng, &mut image);
+            }
+            copies += 1;
+            let what = format!("copy {copies}, P {}", image.p);
+            lookups(run, &image, &made.keys, &what);
+            if judged(run, &image, &what) {
+                passed += 1;
+                found += whole(run, &image, &what);
+            }
+        }
+    }
+    println!("  damaged: {copies} copies, {passed} passed the judge, {found} keys found in them");
+}
+
+/// A file made by the crate after this plan.
+fn made(rng: &mut Rng, plan: &Plan) -> Made {
+    let temporary = Temporary::new("damaged");
+    let (db, store) = worked(rng, plan, &temporary.path);
+    let tx = db.tx(false).unwrap();
+    let View { bytes, meta } = View::new(&tx, &temporary.path);
+    let root = meta.root_page;
+    let image = Image { bytes, p: plan.pagesize, n: meta.num_pages, root, freelist: meta.freelist_page };
+    let by_crate = search::Image::new(&image.bytes, image.p);
+    let first_pages =
+        |root: u64| by_crate.spans(root).into_iter().map(|(first, _)| first).chain([image.freelist]).collect();
+    let roots = [root].into_iter().chain(store.buckets.keys().map(|names| file::root(&descend(&tx, names))));
+    let trees = roots.map(first_pages).collect();
+    let keys = store.buckets.values().flat_map(|data| data.keys().cloned()).chain([b"A".to_vec()]).collect();
+    Made { image, trees, keys }
+}
+
+/// One kind of damage, mostly to the tree: a byte, a field, pages swapped or copied, garbage, another root or freelist.
+fn damage(rng: &mut Rng, image: &mut Image, tree: &[u64]) {
+    let (p, n) = (image.p as usize, image.n);
+    let (at, other) = (rng.pick(tree) as usize * p, rng.between(2, n - 1) as usize * p);
+    match rng.below(12) {
+        0 => flip(rng, &mut image.bytes),
+        1..=3 => flip(rng, &mut image.bytes[at..at + 200]),
+        4..=6 => change(rng, &mut image.bytes, at, n),
+        7 => (0..p).for_each(|i| image.bytes.swap(at + i, other + i)),
+        8 => image.bytes.copy_within(at..at + p, other),
+        9 => garbage(rng, &mut image.bytes),
+        10 => garbage(rng, &mut image.bytes[at..at + p]),
+        _ if rng.one_in(2) => image.root = rng.between(0, n),
+        _ => image.freelist = rng.between(0, n),
+    }
+}
+
+/// Changes one bit.
+fn flip(rng: &mut Rng, bytes: &mut [u8]) {
+    let at = rng.below(bytes.len());
+    bytes[at] ^= 1 << rng.below(8);
+}
+
+/// Cuts the end off, and at times asks about as many pages as are left.
+fn cut(rng: &mut Rng, image: &mut Image) {
+    let length = rng.below(image.bytes.len());
+    image.bytes.truncate(length);
+    if rng.one_in(2) {
+        image.n = length as u64 / image.p;
+    }
+}
+
+/// Puts up to 300 bytes anywhere: random ones, or all the same.
+fn garbage(rng: &mut Rng, bytes: &mut [u8]) {
+    let length = 1 + rng.below(300);
+    let stretch = if rng.one_in(2) { rng.bytes(length) } else { vec![rng.pick(&[0, 1, 0xFF]); length] };
+    let at = rng.below(bytes.len() - length);
+    bytes[at..at + length].copy_from_slice(&stretch);
+}
+
+fn lookup(s: &dyn Subject, image: &Image, key: &[u8]) -> (u64, [u64; 6]) {
+    let got = ask::<6>(|answer| s.lookup(&image.bytes, image.p, image.n, image.root, key, answer));
+    (got.number, got.fields)
+}
+
+/// Some keys of the file and some others, beside the reading.
+fn lookups(run: &mut Run, image: &Image, keys: &[Vec<u8>], what: &str) {
+    let asked: Vec<Vec<u8>> = (0..4).map(|_| run.rng.pick(keys)).collect();
+    for key in content::questions(&mut run.rng, &asked, 1) {
+        let expected = lookup(&Reading, image, &key);
+        run.tally.same(lookup(run.subject, image, &key), expected, || format!("{what}: lookup of {key:?}"));
+    }
+}
+
+/// The judge beside the reading: whether it passes the copy.
+fn judged(run: &mut Run, image: &Image, what: &str) -> bool {
+    let Image { bytes, p, n, root, freelist } = image;
+    let judge = |s: &dyn Subject| ask::<4>(|answer| s.judge(bytes, *p, *n, *root, *freelist, answer));
+    let expected = judge(&Reading);
+    run.tally.same(judge(run.subject), expected, || format!("{what}: judge"));
+    expected.number == 0
+}
+
+/// Every entry of the tree is found where it stands, and as many keys beside them are absent; answers how many entries there are.
+fn whole(run: &mut Run, image: &Image, what: &str) -> usize {
+    let mut entries = BTreeMap::new();
+    walk(image, image.root, true, &mut entries);
+    for (key, fields) in &entries {
+        run.tally.same(lookup(run.subject, image, key), (0, *fields), || format!("{what}: entry {key:?}"));
+        let mut absent = key.clone();
+        while entries.contains_key(&absent) {
+            absent.push(run.rng.next() as u8);
+        }
+        run.tally.same(lookup(run.subject, image, &absent), (0, [0; 6]), || format!("{what}: absent {absent:?}"));
+    }
+    entries.len()
+}
+
+/// The fields that lookup is to answer for each key, by the reading's own walk over all leaves.
+fn walk(image: &Image, page: u64, is_root: bool, entries: &mut BTreeMap<Vec<u8>, [u64; 6]>) {
+    let block = page_block(&image.bytes, image.p, image.n, page, is_root).unwrap();
+    for (entry, place) in block.entries.iter().zip(&block.places) {
+        if !block.leaf {
+            walk(image, entry.tag, false, entries);
+            continue;
+        }
+        let value = page * image.p + (place + entry.key.len()) as u64;
+        entries.insert(entry.key.to_vec(), [1, entry.tag, value, entry.value.len() as u64, 0, 0]);
+    }
+}
