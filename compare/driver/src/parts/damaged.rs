@@ -1,4 +1,5 @@
-//! Files made by the crate, then damaged: judge and lookup beside the reading, and where the judge passes a copy, every key of its tree found.
+//! Files made by the crate, then damaged: judge and lookup beside the reading.
+//! Where the judge passes a copy, every key of its tree is found.
 
 use std::collections::BTreeMap;
 
@@ -35,7 +36,7 @@ struct Image {
     freelist: u64,
 }
 
-/// A file with its trees, each the first pages of its blocks from the root on and then the freelist page, and the keys in them.
+/// A file with its trees (the first page of each block, the root's first, then the freelist's) and the keys in them.
 struct Made {
     image: Image,
     trees: Vec<Vec<u64>>,
@@ -147,7 +148,7 @@ fn judged(run: &mut Run, image: &Image, what: &str) -> bool {
     expected.number == 0
 }
 
-/// Every entry of the tree is found where it stands, and as many keys beside them are absent; answers how many entries there are.
+/// Every entry of the tree is found where it stands, and as many other keys are absent: how many entries there are.
 fn whole(run: &mut Run, image: &Image, what: &str) -> usize {
     let mut entries = BTreeMap::new();
     walk(image, image.root, true, &mut entries);

@@ -1,4 +1,4 @@
-//! Runs of edits: each goes on from the block that the one before it wrote, on both sides, and so do the pieces of a split.
+//! Runs of edits: each goes on from the block that the one before it wrote, on both sides. So do a split's pieces.
 
 use oracle::probe::{edit, split, write_content, Content, Item};
 use subject::{ask, Branch, Leaf};

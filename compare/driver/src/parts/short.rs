@@ -55,7 +55,7 @@ fn searches(run: &mut Run, [a, b]: [u8; 2]) {
     }
 }
 
-/// The cuts of every node of so many entries with payloads of which two or three together just reach half a page, or pass it.
+/// The cuts of every node of so many entries, with payloads that add up to the threshold or to one more.
 fn splits(run: &mut Run, leaf: bool, count: u32) {
     let payloads: [usize; 4] = if leaf { [1, 171, 204, 205] } else { [1, 187, 212, 213] };
     for choice in 0..4_usize.pow(count) {

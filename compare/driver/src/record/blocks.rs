@@ -57,7 +57,7 @@ fn case(rng: &mut Rng, leaf: bool) -> Case {
     Case { block, content, p }
 }
 
-/// The content, whose keys differ in their first byte, with zeros in every other value and in long keys: they pack well.
+/// The content, whose keys differ in their first byte, with zeros in every other value and in long keys, to pack well.
 pub fn thinned(mut content: Content) -> Content {
     content.items.iter_mut().step_by(2).for_each(|item| item.value.fill(0));
     content.items.iter_mut().filter(|item| item.key.len() > 30).for_each(|item| item.key[2..].fill(0));

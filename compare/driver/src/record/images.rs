@@ -58,7 +58,7 @@ fn made(rng: &mut Rng, plan: &Plan) -> (View, Vec<Root>) {
     (view, roots)
 }
 
-/// The file with zeros in every byte that the crate left unset, and in every page that holds nothing; the crate's check passes it.
+/// The file with zeros in unset bytes and in pages that hold nothing, which the crate's check passes.
 fn set_bytes(view: &View, roots: impl Iterator<Item = u64>) -> Vec<u8> {
     let p = view.meta.pagesize as usize;
     let mut bytes = vec![0; view.bytes.len()];

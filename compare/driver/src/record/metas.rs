@@ -25,7 +25,7 @@ fn fnv1a(tape: &mut Tape, bytes: &[u8]) {
     tape.add(&Record { call: Call::Fnv1a, block: bytes, fields: &fields, ..Record::default() });
 }
 
-/// Writes over the page, with the padding that the crate leaves as it was made zero; another type lets it panic, for which 01 has 3.
+/// Writes over the page, with zeros for the padding, which the crate leaves. On another type it panics; 01 has 3.
 fn write(tape: &mut Tape, page: &[u8], f: &Fields) -> Vec<u8> {
     let all = numbers(f, 0);
     let written = meta_page::write(page, f).map(|(mut block, hash)| {
