@@ -3,6 +3,7 @@
 
 use std::collections::BTreeMap;
 
+use oracle::probe::meta_page::Fields;
 use oracle::probe::{file, search};
 use reading::block::page_block;
 use subject::{ask, Subject};
@@ -68,21 +69,22 @@ pub fn run(run: &mut Run) {
     println!("  damaged: {copies} copies, {passed} passed the judge, {found} keys found in them");
 }
 
-/// A file made by the crate after this plan.
+/// A file made by the crate after this plan, with unset bytes cleared.
 fn made(rng: &mut Rng, plan: &Plan) -> Made {
     let temporary = Temporary::new("damaged");
     let (db, store) = worked(rng, plan, &temporary.path);
     let tx = db.tx(false).unwrap();
-    let View { bytes, meta } = View::new(&tx, &temporary.path);
-    let root = meta.root_page;
-    let image = Image { bytes, p: plan.pagesize, n: meta.num_pages, root, freelist: meta.freelist_page };
-    let by_crate = search::Image::new(&image.bytes, image.p);
+    let mut view = View::new(&tx, &temporary.path);
+    let buckets = store.buckets.keys().map(|names| file::root(&descend(&tx, names)));
+    let roots: Vec<u64> = [view.meta.root_page].into_iter().chain(buckets).collect();
+    view.clear_unset(roots.iter().copied());
+    let Fields { pagesize: p, num_pages: n, freelist_page: freelist, .. } = view.meta;
+    let by_crate = search::Image::new(&view.bytes, p);
     let first_pages =
-        |root: u64| by_crate.spans(root).into_iter().map(|(first, _)| first).chain([image.freelist]).collect();
-    let roots = [root].into_iter().chain(store.buckets.keys().map(|names| file::root(&descend(&tx, names))));
-    let trees = roots.map(first_pages).collect();
+        |root: &u64| by_crate.spans(*root).into_iter().map(|(first, _)| first).chain([freelist]).collect();
+    let trees = roots.iter().map(first_pages).collect();
     let keys = store.buckets.values().flat_map(|data| data.keys().cloned()).chain([b"A".to_vec()]).collect();
-    Made { image, trees, keys }
+    Made { image: Image { bytes: view.bytes, p, n, root: roots[0], freelist }, trees, keys }
 }
 
 /// One kind of damage, mostly to the tree: a byte, a field, pages swapped or copied, garbage, another root or freelist.

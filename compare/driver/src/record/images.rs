@@ -6,7 +6,6 @@ use oracle::probe::file;
 use oracle::probe::search::Image;
 
 use super::tape::{Call, Record, Tape};
-use crate::make::fields::{get, unset_cleared};
 use crate::make::store::Plan;
 use crate::make::{content, tree};
 use crate::parts::files::{descend, open, worked, Temporary, View};
@@ -44,7 +43,7 @@ fn image(tape: &mut Tape, bytes: &[u8]) {
 /// The root of a tree, and keys in it.
 type Root = (u64, Vec<Vec<u8>>);
 
-/// A file made after this plan, in the bytes that the crate set, with every tree in it.
+/// A file made after this plan, with unset bytes cleared, which the crate's check passes, and every tree in it.
 fn made(rng: &mut Rng, plan: &Plan) -> (View, Vec<Root>) {
     let temporary = Temporary::new("record");
     let (db, store) = worked(rng, plan, &temporary.path);
@@ -54,32 +53,11 @@ fn made(rng: &mut Rng, plan: &Plan) -> (View, Vec<Root>) {
     for (names, data) in &store.buckets {
         roots.push((file::root(&descend(&tx, names)), data.keys().cloned().collect()));
     }
-    view.bytes = set_bytes(&view, roots.iter().map(|(root, _)| *root));
+    view.clear_unset(roots.iter().map(|(root, _)| *root));
+    let cleared = Temporary::new("record-cleared");
+    fs::write(&cleared.path, &view.bytes).unwrap();
+    assert_eq!(open(&cleared.path, plan.pagesize).check(), Ok(()));
     (view, roots)
-}
-
-/// The file with zeros in unset bytes and in pages that hold nothing, which the crate's check passes.
-fn set_bytes(view: &View, roots: impl Iterator<Item = u64>) -> Vec<u8> {
-    let p = view.meta.pagesize as usize;
-    let mut bytes = vec![0; view.bytes.len()];
-    for meta in [0, p] {
-        bytes[meta..meta + 104].copy_from_slice(&view.bytes[meta..meta + 104]);
-        bytes[meta + 9..meta + 16].fill(0);
-        bytes[meta + 44..meta + 48].fill(0);
-    }
-    let image = Image::new(&view.bytes, view.meta.pagesize);
-    for (first, pages) in roots.flat_map(|root| image.spans(root)) {
-        let (start, end) = (first as usize * p, (first + pages) as usize * p);
-        bytes[start..end].copy_from_slice(&unset_cleared(&view.bytes[start..end]));
-    }
-    let start = view.meta.freelist_page as usize * p;
-    let end = start + 32 + 8 * get(&view.bytes, start + 16) as usize;
-    bytes[start..end].copy_from_slice(&view.bytes[start..end]);
-    bytes[start + 9..start + 16].fill(0);
-    let temporary = Temporary::new("record-set");
-    fs::write(&temporary.path, &bytes).unwrap();
-    assert_eq!(open(&temporary.path, view.meta.pagesize).check(), Ok(()));
-    bytes
 }
 
 /// The entries and blocks that the crate counts; the freelist is one block more.
