@@ -2,7 +2,7 @@
 
 use reading::freelist::Table;
 use reading::meta::Meta;
-use reading::{edit, judge, layout, lookup, meta, pack, search, split, words, Fault};
+use reading::{edit, judge, layout, lookup, meta, newest, pack, search, split, words, Fault};
 use subject::{Branch, Leaf, MetaFields, Subject};
 
 pub struct Reading;
@@ -92,6 +92,13 @@ impl Subject for Reading {
         give(answer, named(2), || {
             let sound = judge::judge(image, p, n, root, freelist)?;
             Ok(vec![sound.entries, sound.blocks])
+        })
+    }
+
+    fn newest_meta(&self, image: &[u8], p: u64, answer: &mut [u8]) -> u64 {
+        give(answer, plain(7), || {
+            let (page, m) = newest::newest(image, p)?;
+            Ok(vec![page, m.pagesize, m.root_page, m.next_int, m.num_pages, m.freelist_page, m.tx_id])
         })
     }
 

@@ -40,6 +40,10 @@ impl Subject for Proved {
         call!(tyvarmos_judge: in image; of p; of n; of root; of freelist; out answer;)
     }
 
+    fn newest_meta(&self, image: &[u8], p: u64, answer: &mut [u8]) -> u64 {
+        call!(tyvarmos_meta: in image; of p; out answer;)
+    }
+
     fn index(&self, block: &[u8], p: u64, key: &[u8], answer: &mut [u8]) -> u64 {
         call!(tyvarmos_index: in block; of p; in key; out answer;)
     }

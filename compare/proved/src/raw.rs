@@ -16,6 +16,8 @@ extern "C" {
         answer: BytesMut, answer_len: usize,
     ) -> u64;
 
+    pub fn tyvarmos_meta(image: Bytes, image_len: usize, p: u64, answer: BytesMut, answer_len: usize) -> u64;
+
     pub fn tyvarmos_index(
         block: Bytes, block_len: usize, p: u64, key: Bytes, key_len: usize, answer: BytesMut, answer_len: usize,
     ) -> u64;

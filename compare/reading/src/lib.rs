@@ -9,6 +9,7 @@ pub mod judge;
 pub mod layout;
 pub mod lookup;
 pub mod meta;
+pub mod newest;
 pub mod pack;
 pub mod search;
 pub mod split;

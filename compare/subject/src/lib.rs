@@ -38,6 +38,9 @@ pub trait Subject {
     /// Fields: entries, blocks, page, element.
     fn judge(&self, image: &[u8], p: u64, n: u64, root: u64, freelist: u64, answer: &mut [u8]) -> u64;
 
+    /// Fields: the page taken, pagesize, root_page, next_int, num_pages, freelist_page, tx_id.
+    fn newest_meta(&self, image: &[u8], p: u64, answer: &mut [u8]) -> u64;
+
     /// Fields: index, found, page, element.
     fn index(&self, block: &[u8], p: u64, key: &[u8], answer: &mut [u8]) -> u64;
     /// Fields: page number, page, element.

@@ -2,18 +2,17 @@
 
 use std::collections::BTreeMap;
 
-use reading::layout::{check_page_size, put_u64};
-use reading::meta::read;
+use reading::layout::put_u64;
+use reading::newest::newest;
 use tyvarmos::{Fault, Image, Meta};
 
 use crate::damage::damage;
 use crate::rng::Rng;
 use crate::small::{self, put_meta};
 
-/// The fields of a meta that reads at a place, or the number.
-fn fields(bytes: &[u8], page: u64, at: u64) -> Result<Meta, u64> {
-    let page_bytes = bytes.get(at as usize..).unwrap_or_default();
-    let (meta, _) = read(page_bytes).map_err(|fault| fault.number)?;
+/// The wrapper's form of the reading's answer.
+fn plain(bytes: &[u8], p: u64) -> Result<Meta, u64> {
+    let (page, meta) = newest(bytes, p).map_err(|fault| fault.number)?;
     Ok(Meta {
         meta_page: page,
         pagesize: meta.pagesize,
@@ -25,40 +24,12 @@ fn fields(bytes: &[u8], page: u64, at: u64) -> Result<Meta, u64> {
     })
 }
 
-/// What page 0 gives where no meta can be used: its own number, or 11 where it reads.
-fn none(first: Result<Meta, u64>) -> u64 {
-    first.err().unwrap_or(11)
-}
-
-/// The page size that the first meta names, or the lowest one at which a meta of that very size lies.
-fn page_size(bytes: &[u8]) -> Result<u64, u64> {
-    let first = fields(bytes, 0, 0);
-    if let Ok(meta) = first {
-        if check_page_size(meta.pagesize).is_ok() {
-            return Ok(meta.pagesize);
-        }
-    }
-    let fits = |p: &u64| fields(bytes, 1, *p).is_ok_and(|meta| meta.pagesize == *p);
-    (1_024..=65_536).step_by(8).find(fits).ok_or(none(first))
-}
-
-/// The meta with the greater transaction of those that read and name this page size, page 1's at a tie.
-fn plain(bytes: &[u8], p: u64) -> Result<Meta, u64> {
-    check_page_size(p).map_err(|fault| fault.number)?;
-    if (bytes.len() as u64) < 2 * p {
-        return Err(1);
-    }
-    let first = fields(bytes, 0, 0);
-    let usable = [first, fields(bytes, 1, p)].into_iter().flatten().filter(|meta| meta.pagesize == p);
-    usable.max_by_key(|meta| meta.tx_id).ok_or(none(first))
-}
-
 fn check(bytes: &[u8], p: Option<u64>) -> Result<Meta, u64> {
     let got = match p {
         Some(p) => Meta::with_page_size(bytes, p),
         None => Meta::of(bytes),
     };
-    let wanted = p.map_or_else(|| page_size(bytes), Ok).and_then(|p| plain(bytes, p));
+    let wanted = plain(bytes, p.unwrap_or(0));
     assert_eq!(got, wanted.map_err(|number| Fault { number, page: 0, element: 0 }), "{p:?}, {} bytes", bytes.len());
     wanted
 }
