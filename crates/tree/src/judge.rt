@@ -148,18 +148,8 @@ fn walk<'a>(
         let ends = has_upper(i, c, bounded);
         let at = k / 64 % 512;
         let word = seen[at];
-        let met = meet(
-            image,
-            p,
-            n,
-            left,
-            false,
-            k,
-            key(b, false, i),
-            end,
-            ends,
-            word,
-        );
+        let low = key(b, false, i);
+        let met = meet(image, p, n, left, false, k, low, end, ends, word);
         seen[at] = with_mark(word, k as u64);
         match met {
             Page::Breach(number, j) => {
