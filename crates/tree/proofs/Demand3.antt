@@ -1,8 +1,5 @@
--- Theorem: for any image, page size, page count, root and freelist page that the judge passes, and every key of any length:
--- lookup doesn't refuse (`never-refused`), reaches a leaf by level 16 (`reaches-a-leaf`), says found exactly when some leaf reached from that root
--- holds the key, with that entry's kind and value (`found-iff`, `value-shown`), and absent when none does (`absent-iff`);
--- no second leaf entry has that key (`one-entry`); and with any bytes changed outside the blocks reached, every lookup answers the same (`outside-free`)
--- and shows the same value (`outside-value`).
+-- Theorem `demand3`: for any image, page size, page count, root and freelist page that the judge passes, the lookup meets demand 3, as the record of
+-- specs/Demand3 states it. The laws before it are its fields.
 -- Assumes nothing.
 use mathlib.Core.Path.{_≡_, refl, sym, ap, _∙_}
 use mathlib.Core.Bool.{Bool, true, false, cond}
@@ -16,7 +13,7 @@ use lib.ListN.{length, getD, take, drop, length-drop}
 use lib.Seq.{drop-drop, take-take, take-nil, length-take-le, getD-take, getD-drop, ext-getD}
 use Rattle.page.specs.Layout.{countOf, overflowOf, isLeaf, valueAt, valueSize, valueOf}
 use Rattle.page.specs.PageRules.{headerBad, blockOf}
-use Rattle.walk.specs.Tree.{Key, Item, View, bad, branch, leaf, memb, Answer, refused, found, absent, lookup, Below, LeafEntry}
+use Rattle.walk.specs.Tree.{Key, Item, View, bad, branch, leaf, memb, Answer, refused, found, absent, lookup, same, seekFrom, Below, LeafEntry}
 use Rattle.walk.proofs.Depth.{Landed}
 use Rattle.walk.proofs.SoundLaws.{below-way}
 use Rattle.walk.proofs.Theorems as tree
@@ -30,6 +27,7 @@ use Rattle.tree.specs.Judge.{Passes}
 use Rattle.tree.specs.Sound.{ReachedFrom}
 use Rattle.tree.specs.Outside.{SameWithin}
 use Rattle.tree.specs.Holds.{Holds, valueHeld}
+use Rattle.tree.specs.Demand3.{ByLeaf, Demand3In}
 use Rattle.tree.proofs.ViewLaws.{checked, LeafBlock, view-branch, view-leaf, row-at, at-row}
 use Rattle.tree.proofs.ViewFrame.{block-is, header-ends, block-end, block-length, same-view}
 use Rattle.tree.proofs.PassesSound.{Passed, judge-passed, sizes-geometry, passes-iff-sound}
@@ -45,6 +43,17 @@ part-part : (n k at m : ℕ) (l : List ℕ) → at + m ≤ n → take m (drop (k
 part-part n k at m l h =
     let a : take m (drop at (take n (drop k l))) ≡ take m (take (n - at) (drop at (drop k l))) = ap (take m) (drop-take at n (drop k l)) in
     sym (a ∙ take-take m (n - at) (drop at (drop k l)) (omega arith) ∙ ap (take m) (drop-drop at k l))
+
+-- what a search of a page's entries finds is on that page
+own-page : (es : List (Item Value)) (key : Key) (page i : ℕ) (e : Item Value) (q j : ℕ) → seekFrom es key page i ≡ found e q j → q ≡ page
+unfolding seekFrom
+own-page [] key page i e q j h = absurd (let z : _≡_ {A = ℕ} 0 1 = cc in omega arith)
+own-page (x ∷ es) key page i e q j h = go (same (x .key) key) h (own-page es key page (suc i) e q j)
+  where
+    go : (t : Bool) → cond t (found x page i) (seekFrom es key page (suc i)) ≡ found e q j
+        → (seekFrom es key page (suc i) ≡ found e q j → q ≡ page) → q ≡ page
+    go true g ih = let u : page ≡ q = cc in sym u
+    go false g ih = ih g
 
 module _ (image : List ℕ) (P N root f : ℕ) (passes : Passes image P N root f) where
   abbrev view : ℕ → Bool → View Value
@@ -113,7 +122,7 @@ module _ (image : List ℕ) (P N root f : ℕ) (passes : Passes image P N root f
       }
 
   -- ---- lookup doesn't refuse
-  pub never-refused : (key : Key) (x : Fault) → lookupOf image P N root key ≡ Refused x → ⊥
+  never-refused : (key : Key) (x : Fault) → lookupOf image P N root key ≡ Refused x → ⊥
   never-refused key x e = go (lookup N view 16 true root key) refl (sym (looks key) ∙ e)
     where
       go : (a : Answer Value) → lookup N view 16 true root key ≡ a → lookedOf a ≡ Refused x → ⊥
@@ -121,12 +130,8 @@ module _ (image : List ℕ) (P N root f : ℕ) (passes : Passes image P N root f
       go (found y q i) h g = let z : _≡_ {A = ℕ} 0 1 = cc in omega arith
       go absent h g = let z : _≡_ {A = ℕ} 0 1 = cc in omega arith
 
-  -- ---- it reaches a leaf by level 16, and answers by that leaf's entries
-  pub reaches-a-leaf : (key : Key) → Landed N view key 16 true root
-  reaches-a-leaf = tree.lands N view (checked image P N) root (passes .entries) (p .visited) (p .walked)
-
   -- ---- it says found exactly when some leaf reached from that root holds the key, and shows that entry
-  pub found-iff : (key : Key) (v : Value)
+  found-iff : (key : Key) (v : Value)
       → (lookupOf image P N root key ≡ Found v) ↔ ((page : ℕ) × (i : ℕ) × Holds image P N root key page i × (v ≡ valueHeld image P page i))
   found-iff key v = (λ e. there (lookup N view 16 true root key) refl (sym (looks key) ∙ e), back)
     where
@@ -146,7 +151,7 @@ module _ (image : List ℕ) (P N root f : ℕ) (passes : Passes image P N root f
           (holds-entry key q i h, h .hasKey) in
           looks key ∙ ap lookedOf x ∙ ap Found (sym e)
 
-  pub absent-iff : (key : Key) → (lookupOf image P N root key ≡ Absent) ↔ ((page i : ℕ) → Holds image P N root key page i → ⊥)
+  absent-iff : (key : Key) → (lookupOf image P N root key ≡ Absent) ↔ ((page i : ℕ) → Holds image P N root key page i → ⊥)
   absent-iff key = (λ e. there (lookup N view 16 true root key) refl (sym (looks key) ∙ e), back)
     where
       there : (a : Answer Value) → lookup N view 16 true root key ≡ a → lookedOf a ≡ Absent → (page i : ℕ) → Holds image P N root key page i → ⊥
@@ -163,8 +168,34 @@ module _ (image : List ℕ) (P N root f : ℕ) (passes : Passes image P N root f
           (tree.absent-iff N view (checked image P N) root (passes .entries) (p .visited) (p .walked) key .1
           (λ q i e x k. n q i (rw k at (entry-holds q i e x .0))))
 
+  -- ---- the answer comes from a leaf that is reached by level 16
+  by-leaf : (key : Key) → ByLeaf image P N root key (lookupOf image P N root key)
+  by-leaf key =
+      let w = tree.lands N view (checked image P N) root (passes .entries) (p .visited) (p .walked) key in
+      record {
+        page = w .page;
+        reached = record { level = w .level; top = w .top; way = w .way };
+        by16 = w .within;
+        isALeaf = view-leaf image P N (w .page) (w .top) (w .entries) (w .isLeaf) .kind;
+        found = λ v e. there (w .page) (w .entries) v (lookup N view 16 true root key) refl (w .answers) (sym (looks key) ∙ e);
+        absent = λ e. absent-iff key .0 e (w .page);
+      }
+    where
+      there : (page : ℕ) (es : List (Item Value)) (v : Value) (a : Answer Value) → lookup N view 16 true root key ≡ a
+          → lookup N view 16 true root key ≡ seekFrom es key page 0
+          → lookedOf a ≡ Found v
+          → (i : ℕ) × Holds image P N root key page i × (v ≡ valueHeld image P page i)
+      there page es v (refused r q i) h s g = absurd (let z : _≡_ {A = ℕ} 0 1 = cc in omega arith)
+      there page es v (found y q i) h s g =
+          let x = tree.found-iff N view (checked image P N) root (passes .entries) (p .visited) (p .walked) key y q i .0 h in
+          let w = entry-holds q i y (x .0) in
+          let u : y .value ≡ v = cc in
+          let k = own-page es key page 0 y q i (sym s ∙ h) in
+          (i, rw k at (rw (x .1) at (w .0)), rw k at (sym u ∙ ap (λ (e : Item Value). e .value) (w .1)))
+      there page es v absent h s g = absurd (let z : _≡_ {A = ℕ} 0 1 = cc in omega arith)
+
   -- ---- the value shown is the entry's
-  pub value-shown : (key : Key) (page i : ℕ) → Holds image P N root key page i
+  value-shown : (key : Key) (page i : ℕ) → Holds image P N root key page i
       → valueIn image (Found (valueHeld image P page i)) ≡ valueOf true (blockOf image P page) i
   unfolding valueOf
   value-shown key q i h =
@@ -176,14 +207,14 @@ module _ (image : List ℕ) (P N root f : ℕ) (passes : Passes image P N root f
       ∙ ap (λ (s : List ℕ). take (valueSize true b i) (drop (valueAt true b i) s)) (sym (block-is image P q))
 
   -- ---- no second leaf entry has that key
-  pub one-entry : (key : Key) (page i page′ i′ : ℕ) → Holds image P N root key page i → Holds image P N root key page′ i′ → (page ≡ page′) × (i ≡ i′)
+  one-entry : (key : Key) (page i page′ i′ : ℕ) → Holds image P N root key page i → Holds image P N root key page′ i′ → (page ≡ page′) × (i ≡ i′)
   one-entry key q i q′ i′ h h′ =
       let x = tree.one-place N view (checked image P N) root (passes .entries) (p .visited) (p .walked) q i _ q′ i′ _
       (holds-entry key q i h) (holds-entry key q′ i′ h′) (h .hasKey ∙ sym (h′ .hasKey)) in
       (x .0, x .1)
 
   -- ---- bytes outside the blocks reached don't matter
-  pub outside-free : (image′ : List ℕ) → SameWithin image image′ P N root → (key : Key) → lookupOf image′ P N root key ≡ lookupOf image P N root key
+  outside-free : (image′ : List ℕ) → SameWithin image image′ P N root → (key : Key) → lookupOf image′ P N root key ≡ lookupOf image P N root key
   unfolding lookupOf geometryBad
   outside-free image′ same key =
       rw (same .sameLength)
@@ -196,7 +227,7 @@ module _ (image : List ℕ) (P N root f : ℕ) (passes : Passes image P N root f
           same-view image P N q (header-ends N q _ (header-sound q r)) (p .sizes .holds) image′ (p .sizes .leastSize) (same .sameLength) (λ k. same .sameBytes q k r) s
 
   -- and the value shown has the same bytes
-  pub outside-value : (image′ : List ℕ) → SameWithin image image′ P N root → (key : Key)
+  outside-value : (image′ : List ℕ) → SameWithin image image′ P N root → (key : Key)
       → valueIn image′ (lookupOf image′ P N root key) ≡ valueIn image (lookupOf image P N root key)
   outside-value image′ same key = ap (valueIn image′) (outside-free image′ same key) ∙ go (lookupOf image P N root key) refl
     where
@@ -222,3 +253,16 @@ module _ (image : List ℕ) (P N root f : ℕ) (passes : Passes image P N root f
       go (Found v) e = let x = found-iff key v .0 e in rw (x .3) (held (x .0) (x .1) (x .2))
       go Absent e = refl
       go (Refused x) e = refl
+
+  -- ---- all of it
+  pub demand3 : Demand3In (λ s. lookupOf s P N root) image P N root
+  demand3 =
+      record {
+        neverRefused = never-refused;
+        reachesALeaf = by-leaf;
+        foundIff = found-iff;
+        valueShown = λ key page i h. ap (valueIn image) (found-iff key (valueHeld image P page i) .1 (page, i, h, refl)) ∙ value-shown key page i h;
+        absentIff = absent-iff;
+        oneEntry = one-entry;
+        outsideFree = λ image′ same key. (outside-free image′ same key, outside-value image′ same key);
+      }

@@ -23,7 +23,7 @@ use Rattle.tree.specs.declared.judge.Judged.the-variants.{Sound, Refused
 use Rattle.tree.specs.View.{geometryBad, elementsView, checkedView, blockView, viewOf}
 use Rattle.tree.specs.Lookup.{faultAt, lookupOf, numberOf}
 use Rattle.tree.specs.Judge.{idOutside, idNotAbove, idMarked, freeHeaderBad, idsOf, freelistOf, judgedOf, afterTree, judgeOf, Passes, numberOf as judgeNumber}
-use Rattle.tree.proofs.Demand3.{never-refused}
+use Rattle.tree.proofs.Demand3.{demand3}
 
 -- ---- breaches are numbered from 1
 abbrev Numbered : Verdict → Type 0
@@ -140,4 +140,4 @@ lookup-zero image P N root f passes key = go (lookupOf image P N root key) refl
     go : (a : Looked) → lookupOf image P N root key ≡ a → numberOf a ≡ 0
     go (looked.Found v) e = refl
     go looked.Absent e = refl
-    go (looked.Refused x) e = absurd (never-refused image P N root f passes key x e)
+    go (looked.Refused x) e = absurd (demand3 image P N root f passes .neverRefused key x e)

@@ -7,3 +7,4 @@ pub mod Walk
 pub mod Sound
 pub mod Outside
 pub mod Holds
+pub mod Demand3
