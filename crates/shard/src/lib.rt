@@ -4,7 +4,7 @@ ghost use Rattle.tree.specs.Lookup.{lookupOf};
 ghost use Rattle.tree.specs.Judge.{judgeOf};
 ghost use Rattle.meta.specs.Newest.{newestOf, newestFields};
 ghost use Rattle.answer.specs.Answer.{toldNumber, toldAnswer};
-ghost use Rattle.shard.specs.Answer.{lookupNumber, lookupAnswer, judgeNumber, judgeAnswer};
+ghost use Rattle.shard.specs.Answer.{lookedFields, judgedFields};
 use answer::give;
 use meta::newest::Newest;
 use meta::newest::newest_meta;
@@ -30,8 +30,8 @@ pub extern "C" fn tyvarmos_lookup(
     key: &[u8],
     answer: &mut [u8],
 ) -> u64
-    ensures { λ r. ⌜ (r ≡ lookupNumber (lookupOf (now (image .entry)) p n root (now (key .entry))) (now (answer .entry)))
-        × (now (answer .exit) ≡ lookupAnswer (lookupOf (now (image .entry)) p n root (now (key .entry))) (now (answer .entry))) ⌝ }
+    ensures { λ r. ⌜ (r ≡ toldNumber (lookedFields (lookupOf (now (image .entry)) p n root (now (key .entry)))) (now (answer .entry)))
+        × (now (answer .exit) ≡ toldAnswer (lookedFields (lookupOf (now (image .entry)) p n root (now (key .entry)))) (now (answer .entry))) ⌝ }
 {
     match lookup(image, p, n, root, key) {
         Looked::Found(v) => {
@@ -59,8 +59,8 @@ pub extern "C" fn tyvarmos_judge(
     freelist: usize,
     answer: &mut [u8],
 ) -> u64
-    ensures { λ r. ⌜ (r ≡ judgeNumber (judgeOf (now (image .entry)) p n root freelist) (now (answer .entry)))
-        × (now (answer .exit) ≡ judgeAnswer (judgeOf (now (image .entry)) p n root freelist) (now (answer .entry))) ⌝ }
+    ensures { λ r. ⌜ (r ≡ toldNumber (judgedFields (judgeOf (now (image .entry)) p n root freelist)) (now (answer .entry)))
+        × (now (answer .exit) ≡ toldAnswer (judgedFields (judgeOf (now (image .entry)) p n root freelist)) (now (answer .entry))) ⌝ }
 {
     match judge(image, p, n, root, freelist) {
         Judged::Sound(entries, blocks) => {

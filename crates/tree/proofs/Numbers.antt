@@ -21,8 +21,8 @@ use Rattle.tree.specs.declared.lookup.Looked.the-variants as looked
 use Rattle.tree.specs.declared.judge.Judged.{Judged}
 use Rattle.tree.specs.declared.judge.Judged.the-variants.{Sound, Refused}
 use Rattle.tree.specs.View.{geometryBad, elementsView, checkedView, blockView, viewOf}
-use Rattle.tree.specs.Lookup.{faultAt, lookupOf, numberOf}
-use Rattle.tree.specs.Judge.{idOutside, idNotAbove, idMarked, freeHeaderBad, idsOf, freelistOf, judgedOf, afterTree, judgeOf, Passes, numberOf as judgeNumber}
+use Rattle.tree.specs.Lookup.{faultAt, lookupOf, lookedNumber}
+use Rattle.tree.specs.Judge.{idOutside, idNotAbove, idMarked, freeHeaderBad, idsOf, freelistOf, judgedOf, afterTree, judgeOf, Passes, judgedNumber}
 use Rattle.tree.proofs.Demand3.{demand3}
 
 -- ---- breaches are numbered from 1
@@ -115,29 +115,29 @@ module _ (N : ℕ) (view : ℕ → Bool → View Value) (numbered : NumberedView
       go false b h ih = let u : 2 ≡ r = cc in omega arith
 
 -- ---- a judge that answers 0 has passed
-pub zero-passes : (image : List ℕ) (P N root f : ℕ) → judgeNumber (judgeOf image P N root f) ≡ 0 → Passes image P N root f
+pub zero-passes : (image : List ℕ) (P N root f : ℕ) → judgedNumber (judgeOf image P N root f) ≡ 0 → Passes image P N root f
 unfolding judgeOf
 zero-passes image P N root f e = go (geometryBad image P N) refl e
   where
-    listed : (vs : List ℕ) (n : ℕ) (v : Verdict) → Numbered v → judgedOf v f n (length (f ∷ vs)) ≡ judgeOf image P N root f → judgeNumber (judgedOf v f n (length (f ∷ vs))) ≡ 0 → Passes image P N root f
+    listed : (vs : List ℕ) (n : ℕ) (v : Verdict) → Numbered v → judgedOf v f n (length (f ∷ vs)) ≡ judgeOf image P N root f → judgedNumber (judgedOf v f n (length (f ∷ vs))) ≡ 0 → Passes image P N root f
     listed vs n verdict.Sound m j h = record { entries = n; blocks = length (f ∷ vs); passed = sym j }
     listed vs n (verdict.Breach k i) m j h = absurd (let l = m k i refl in omega arith)
 
-    tree : (w : Walk) → Faulted w → afterTree image P N f w ≡ judgeOf image P N root f → judgeNumber (afterTree image P N f w) ≡ 0 → Passes image P N root f
+    tree : (w : Walk) → Faulted w → afterTree image P N f w ≡ judgeOf image P N root f → judgedNumber (afterTree image P N f w) ≡ 0 → Passes image P N root f
     tree (pass n vs) g j h = listed vs n (freelistOf image P N f vs) (list-numbered image P N f vs) j h
     tree (fault k p i) g j h = absurd (let l = g k p i refl in omega arith)
 
-    go : (t : Bool) → geometryBad image P N ≡ t → judgeNumber (cond t (Refused (faultAt 1 0 0)) (afterTree image P N f (walk N (viewOf image P N) 16 true root [] none []))) ≡ 0 → Passes image P N root f
+    go : (t : Bool) → geometryBad image P N ≡ t → judgedNumber (cond t (Refused (faultAt 1 0 0)) (afterTree image P N f (walk N (viewOf image P N) 16 true root [] none []))) ≡ 0 → Passes image P N root f
     go true g h = absurd (omega arith)
     go false g h =
         tree (walk N (viewOf image P N) 16 true root [] none []) (walk-faulted N (viewOf image P N) (view-numbered image P N) 16 true root [] none [])
         (rw g) h
 
 -- ---- and then every lookup answers 0
-pub lookup-zero : (image : List ℕ) (P N root f : ℕ) → Passes image P N root f → (key : Key) → numberOf (lookupOf image P N root key) ≡ 0
+pub lookup-zero : (image : List ℕ) (P N root f : ℕ) → Passes image P N root f → (key : Key) → lookedNumber (lookupOf image P N root key) ≡ 0
 lookup-zero image P N root f passes key = go (lookupOf image P N root key) refl
   where
-    go : (a : Looked) → lookupOf image P N root key ≡ a → numberOf a ≡ 0
+    go : (a : Looked) → lookupOf image P N root key ≡ a → lookedNumber a ≡ 0
     go (looked.Found v) e = refl
     go looked.Absent e = refl
     go (looked.Refused x) e = absurd (demand3 image P N root f passes .neverRefused key x e)

@@ -76,6 +76,6 @@ pub record Passes (image : List ℕ) (P N root f : ℕ) : Type 0 where
   pub passed : judgeOf image P N root f ≡ Sound entries blocks
 
 -- 01's number of the answer
-abbrev pub numberOf : Judged → ℕ
-numberOf (Sound entries blocks) = 0
-numberOf (Refused f) = f .number
+abbrev pub judgedNumber : Judged → ℕ
+judgedNumber (Sound entries blocks) = 0
+judgedNumber (Refused f) = f .number

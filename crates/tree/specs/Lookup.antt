@@ -25,10 +25,10 @@ lookupOf image P N root key =
     cond (geometryBad image P N) (Refused (faultAt 1 0 0)) (lookedOf (lookup N (viewOf image P N) 16 true root key))
 
 -- 01's number of the answer
-abbrev pub numberOf : Looked → ℕ
-numberOf (Found v) = 0
-numberOf Absent = 0
-numberOf (Refused f) = f .number
+abbrev pub lookedNumber : Looked → ℕ
+lookedNumber (Found v) = 0
+lookedNumber Absent = 0
+lookedNumber (Refused f) = f .number
 
 -- the value's bytes, a part of the image; absent or refused gives an empty part
 abbrev pub valueIn : List ℕ → Looked → List ℕ
