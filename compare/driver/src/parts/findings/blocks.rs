@@ -17,6 +17,9 @@ pub fn run(run: &mut Run) {
     short_bucket_value(run);
     missing_child(run);
     empty_below_root(run);
+    empty_branch(run);
+    keys_out_of_order(run);
+    limits(run);
 }
 
 fn branch(pages: &[(&str, u64)]) -> Content {
@@ -90,4 +93,53 @@ fn empty_below_root(run: &mut Run) {
         let got = ask::<6>(|answer| run.subject.lookup(&image, P, 4, root, b"b", answer));
         run.tally.same((got.number, got.fields), (4, [0, 0, 0, 0, page, 0]), || "finding 7".into());
     }
+}
+
+/// 19. An empty branch takes an entry; 01 says 4.
+fn empty_branch(run: &mut Run) {
+    let mut block = vec![0; 1_024];
+    put_header(&mut block, 2, 1, 0, 0);
+    let stored = edit::insert_branch(&block, P, None, b"b", 7, 0);
+    run.tally.same(stored, Some(write_content(&branch(&[("b", 7)]), P, 2, 0)), || "finding 19, the crate".into());
+    let change = Branch { original: None, key: b"b", child: 7 };
+    let got = ask::<3>(|answer| run.subject.insert_branch(&block, P, change, &mut [0; 1_024], answer));
+    run.tally.same(got.number, 4, || "finding 19".into());
+}
+
+/// 20. A block with keys out of order is searched as it is, so that a key in it is not found; 01 says 6.
+fn keys_out_of_order(run: &mut Run) {
+    let block = write_content(&branch(&[("b", 7), ("d", 8), ("a", 9)]), P, 2, 0);
+    run.tally.same(search::index(&block, P, b"a"), [(0, false); 2], || "finding 20, the crate".into());
+    let got = ask::<4>(|answer| run.subject.index(&block, P, b"a", answer));
+    run.tally.same((got.number, got.fields), (6, [0, 0, 0, 2]), || "finding 20".into());
+}
+
+/// 21. Any page size, page count and depth is taken; 01 has limits.
+fn limits(run: &mut Run) {
+    let block = write_content(&branch(&[("b", 7)]), 131_072, 2, 0);
+    run.tally.same(search::index(&block, 131_072, b"b"), [(0, true); 2], || "finding 21, a page of the crate".into());
+    let got = ask::<4>(|answer| run.subject.index(&block, 131_072, b"b", answer));
+    run.tally.same((got.number, got.fields), (1, [0; 4]), || "finding 21, page size".into());
+
+    let image = chain(17);
+    run.tally.check(Image::new(&image, P).get(2, b"b").is_some(), || "finding 21, 17 levels of the crate".into());
+    let got = ask::<6>(|answer| run.subject.lookup(&image, P, 19, 2, b"b", answer));
+    run.tally.same((got.number, got.fields), (9, [0, 0, 0, 0, 18, 0]), || "finding 21, levels".into());
+
+    let image = [chain(2), vec![0; 32_765 * 1_024]].concat();
+    for (n, number) in [(32_768, 0), (32_769, 1)] {
+        let got = ask::<6>(|answer| run.subject.lookup(&image, P, n, 2, b"b", answer));
+        run.tally.same(got.number, number, || format!("finding 21, {n} pages"));
+    }
+}
+
+/// An image whose root, page 2, has so many levels, one page each, down to a leaf with the key b.
+fn chain(levels: u64) -> Vec<u8> {
+    let mut image = vec![0; 2_048];
+    for page in 2..levels + 1 {
+        image.extend(write_content(&branch(&[("b", page + 1)]), P, page, 0));
+    }
+    let leaf = Content { leaf: true, items: vec![Item { tag: 0, key: b"b".to_vec(), value: vec![6] }] };
+    image.extend(write_content(&leaf, P, levels + 1, 0));
+    image
 }

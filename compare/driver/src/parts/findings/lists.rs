@@ -13,6 +13,7 @@ pub fn run(run: &mut Run) {
     freed_outside(run);
     unsorted(run);
     without_end(run);
+    listed_not_in_use(run);
 }
 
 fn free(run: &Run, table: &mut [u64], n: u64, first: u64, count: u64) -> u64 {
@@ -57,4 +58,15 @@ fn without_end(run: &mut Run) {
     run.tally.same(by_crate.allocate(40), Some((32_768, 32_769)), || "finding 11, the crate".into());
     let got = ask::<2>(|answer| run.subject.allocate(&mut table, 32_768, P, 40, answer));
     run.tally.same((got.number, got.fields), (12, [0; 2]), || "finding 11".into());
+}
+
+/// 18. An initial list may name a page that is not in use, which is then listed twice; 01 says 11.
+fn listed_not_in_use(run: &mut Run) {
+    let (mut by_crate, mut table) = (FreeTable::new(P, 4), vec![0; TABLE_WORDS]);
+    by_crate.free(2, 1, 1);
+    by_crate.init(&[2]);
+    run.tally.same(by_crate.pages(), vec![2, 2], || "finding 18, the crate".into());
+    let freed = free(run, &mut table, 4, 2, 1);
+    let got = ask::<0>(|answer| run.subject.free_init(&mut table, 4, &[2], answer));
+    run.tally.same((freed, got.number), (0, 11), || "finding 18".into());
 }
