@@ -1,7 +1,8 @@
--- The newest meta: it reads at the page that it was taken from and names the page size used, and no meta that counts has a greater tx_id.
+-- The newest meta: it reads at the page that it was taken from and names the page size used, and no meta that counts has a greater tx_id; a refusal's
+-- number is above 0.
 -- Assumes nothing.
 use mathlib.Core.Path.{_≡_, refl, sym, ap, _∙_}
-use mathlib.Core.Bool.{Bool, true, false, cond}
+use mathlib.Core.Bool.{Bool, true, false, not, cond}
 use mathlib.Core.List.{List}
 use mathlib.Core.Logic.{_⊎_, inl, inr, ⊎-elim}
 use Prim.Native.Nat.{ℕ, _*_, _≤_, _<_}
@@ -10,10 +11,10 @@ use native.Mathlib.Omega.{arith}
 use borrow.Author.Tests.{ltb-true, ltb-false, eq-eqb, ne-eqb, eqb-true}
 use lib.Arith.{lt-of-le-ne}
 use lib.Dec.{ltb, eqb}
-use lib.ListN.{length, drop}
+use lib.ListN.{length, getD, drop}
 use Rattle.field.proofs.BitLaws.{same-or}
 use Rattle.field.specs.Sizes.{sizeAllowed}
-use Rattle.meta.specs.Meta.{readOf}
+use Rattle.meta.specs.Meta.{metaAt, hashOf, readOf}
 use Rattle.meta.specs.Newest.{counts, newer, newestAt, sizeFound, noSize, newestOf, sizeUsed}
 use Rattle.meta.specs.declared.Meta.{Meta}
 use Rattle.meta.specs.declared.MetaRead.{MetaRead}
@@ -176,3 +177,61 @@ none-newer image p page m h other x two r s =
 
     second : (other ≡ 0 → ⊥) → (counts P (readOf image) ≡ Read x) ⊎ (counts P (readOf (drop P image)) ≡ Read x)
     second n = let e : other ≡ 1 = omega (arith, lt-of-le-ne {i = 0} {k = other} (omega arith) (λ e. n (sym e))) in inr (counted P (rw (e, one-mul)))
+
+-- ---- a refusal's number is above 0
+
+abbrev Numbered : MetaRead → Type 0
+Numbered r = (k : ℕ) → r ≡ NotRead k → 0 < k
+
+read-numbered : (page : List ℕ) → Numbered (readOf page)
+unfolding readOf
+read-numbered page = go (ltb (length page) 104) (not (eqb (getD page 8 0) 3)) (not (eqb (metaAt page .hash) (hashOf (metaAt page))))
+  where
+    go : (a b c : Bool) → Numbered (cond a (NotRead 1) (cond b (NotRead 3) (cond c (NotRead 13) (Read (metaAt page)))))
+    go true b c k h = let u : 1 ≡ k = cc in omega arith
+    go false true c k h = let u : 3 ≡ k = cc in omega arith
+    go false false true k h = let u : 13 ≡ k = cc in omega arith
+    go false false false k h = absurd (let z : _≡_ {A = ℕ} 0 1 = cc in omega arith)
+
+counts-numbered : (P : ℕ) (r : MetaRead) → Numbered r → Numbered (counts P r)
+counts-numbered P (Read m) n = go (eqb (m .pagesize) P)
+  where
+    go : (t : Bool) → Numbered (cond t (Read m) (NotRead 11))
+    go true k h = absurd (let z : _≡_ {A = ℕ} 0 1 = cc in omega arith)
+    go false k h = let u : 11 ≡ k = cc in omega arith
+counts-numbered P (NotRead number) n = n
+
+newer-numbered : (a b : MetaRead) → Numbered a → (k : ℕ) → newer a b ≡ Refused k → 0 < k
+newer-numbered (Read x) (Read y) n k h = go (ltb (y .«tx_id») (x .«tx_id»)) h
+  where
+    go : (t : Bool) → cond t (Taken 0 x) (Taken 1 y) ≡ Refused k → 0 < k
+    go true h = absurd (let z : _≡_ {A = ℕ} 0 1 = cc in omega arith)
+    go false h = absurd (let z : _≡_ {A = ℕ} 0 1 = cc in omega arith)
+newer-numbered (Read x) (NotRead number) n k h = absurd (let z : _≡_ {A = ℕ} 0 1 = cc in omega arith)
+newer-numbered (NotRead number) (Read y) n k h = absurd (let z : _≡_ {A = ℕ} 0 1 = cc in omega arith)
+newer-numbered (NotRead number) (NotRead other) n k h = let u : number ≡ k = cc in n k (ap NotRead u)
+
+at-numbered : (image : List ℕ) (P k : ℕ) → newestAt image P ≡ Refused k → 0 < k
+unfolding newestAt
+at-numbered image P k = go (ltb (length image) (2 * P))
+  where
+    go : (t : Bool) → cond t (Refused 1) (newer (counts P (readOf image)) (counts P (readOf (drop P image)))) ≡ Refused k → 0 < k
+    go true h = let u : 1 ≡ k = cc in omega arith
+    go false h =
+        newer-numbered (counts P (readOf image)) (counts P (readOf (drop P image))) (counts-numbered P (readOf image) (read-numbered image)) k h
+
+pub newest-numbered : (image : List ℕ) (p k : ℕ) → newestOf image p ≡ Refused k → 0 < k
+unfolding newestOf
+newest-numbered image p k = go (eqb p 0) (eqb (sizeFound image) 0) (sizeAllowed p)
+  where
+    missing : (r : MetaRead) → Numbered r → Refused (noSize r) ≡ Refused k → 0 < k
+    missing (Read m) n h = let u : 11 ≡ k = cc in omega arith
+    missing (NotRead number) n h = let u : number ≡ k = cc in n k (ap NotRead u)
+
+    go : (a b c : Bool)
+        → cond a (cond b (Refused (noSize (readOf image))) (newestAt image (sizeFound image))) (cond c (newestAt image p) (Refused 1)) ≡ Refused k
+        → 0 < k
+    go true true c h = missing (readOf image) (read-numbered image) h
+    go true false c h = at-numbered image (sizeFound image) k h
+    go false b true h = at-numbered image p k h
+    go false b false h = let u : 1 ≡ k = cc in omega arith

@@ -1,2 +1,3 @@
--- Demand 3 in the words of the C functions.
+-- Demand 3 in the words of the C functions, and that 0 means done.
 pub mod Promise
+pub mod ZeroDone

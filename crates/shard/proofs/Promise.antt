@@ -4,13 +4,12 @@
 -- (`outside-told`), and the bytes at that place are the same (`outside-value`).
 -- Assumes nothing.
 use mathlib.Core.Path.{_≡_, refl, sym, ap, _∙_}
-use mathlib.Core.Bool.{Bool, true, false, cond}
+use mathlib.Core.Bool.{true}
 use mathlib.Core.List.{List, [], _∷_, _++_}
 use Prim.Native.Nat.{ℕ, _*_, _≤_}
-use native.Mathlib.Omega.{arith}
 use borrow.Author.Tests.{le-ltb}
 use lib.ListN.{length, drop}
-use Rattle.answer.specs.Answer.{fields, tooShort, numberWith, answerWith, toldNumber, toldAnswer}
+use Rattle.answer.specs.Answer.{fields, numberWith, answerWith, toldNumber, toldAnswer}
 use Rattle.page.specs.Layout.{valueOf}
 use Rattle.page.specs.PageRules.{blockOf}
 use Rattle.walk.specs.Tree.{Key}
@@ -26,14 +25,7 @@ use Rattle.tree.specs.Demand3.{Demand3In}
 use Rattle.tree.proofs.Demand3.{demand3}
 use Rattle.tree.proofs.Numbers.{zero-passes, lookup-zero}
 use Rattle.shard.specs.Answer.{lookedFields, judgedFields}
-
-zero-told : (count number : ℕ) (answer : List ℕ) → numberWith count number answer ≡ 0 → number ≡ 0
-unfolding numberWith
-zero-told count number answer e = go (tooShort count answer) e
-  where
-    go : (t : Bool) → cond t 1 number ≡ 0 → number ≡ 0
-    go true h = absurd (omega arith)
-    go false h = h
+use Rattle.shard.proofs.ZeroDone.{zero-told}
 
 judge-told : (j : Judged) (answer : List ℕ) → toldNumber (judgedFields j) answer ≡ 0 → judgedNumber j ≡ 0
 judge-told (judged.Sound entries blocks) answer e = refl

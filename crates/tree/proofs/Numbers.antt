@@ -1,5 +1,5 @@
--- Theorem: a judge that answers 0 has passed the image (`zero-passes`), since every refusal has a number above 0; and on an image that passed,
--- every lookup answers 0 (`lookup-zero`).
+-- Theorem: every refusal of the judge and of lookup has a number above 0 (`judge-numbered`, `lookup-numbered`). So a judge that answers 0 has passed the
+-- image (`zero-passes`), and on an image that passed every lookup answers 0 (`lookup-zero`).
 -- Assumes nothing.
 use mathlib.Core.Path.{_≡_, refl, sym, ap, _∙_}
 use mathlib.Core.Bool.{Bool, true, false, not, cond, _&&_}
@@ -14,14 +14,15 @@ use Rattle.page.specs.declared.rules.Verdict.the-variants as verdict
 use Rattle.page.specs.Layout.{countOf, isLeaf}
 use Rattle.page.specs.PageRules.{andThen, breachIf, firstBad, tableBad, elementBad, keyBad, headerBad, blockOf, checkOf}
 use Rattle.page.proofs.FirstBreach.{breach-first}
-use Rattle.walk.specs.Tree.{Key, Item, View, bad, branch, leaf, keys, memb, inside, firstOut, unlessOut, next, Walker, pass, fault, andThen as thenWalk, walkAll, walkPage, walk, Verdict as Walk}
+use Rattle.walk.specs.Tree.{Key, Item, View, bad, branch, leaf, keys, memb, inside, firstOut, unlessOut, next, Walker, pass, fault, andThen as thenWalk, walkAll, walkPage, walk, same, childFor, seekFrom, lookPage, Answer, refused, found, absent, lookup, Verdict as Walk}
+use Rattle.tree.specs.declared.lookup.Fault.{Fault}
 use Rattle.tree.specs.declared.lookup.Value.{Value}
 use Rattle.tree.specs.declared.lookup.Looked.{Looked}
 use Rattle.tree.specs.declared.lookup.Looked.the-variants as looked
 use Rattle.tree.specs.declared.judge.Judged.{Judged}
 use Rattle.tree.specs.declared.judge.Judged.the-variants.{Sound, Refused}
 use Rattle.tree.specs.View.{geometryBad, elementsView, checkedView, blockView, viewOf}
-use Rattle.tree.specs.Lookup.{faultAt, lookupOf, lookedNumber}
+use Rattle.tree.specs.Lookup.{faultAt, lookedOf, lookupOf, lookedNumber}
 use Rattle.tree.specs.Judge.{idOutside, idNotAbove, idMarked, freeHeaderBad, idsOf, freelistOf, judgedOf, afterTree, judgeOf, Passes, judgedNumber}
 use Rattle.tree.proofs.Demand3.{demand3}
 
@@ -89,6 +90,16 @@ all-faulted (c ∷ cs) go f high n vs r p i e = step (go (c .value) (c .key) (ne
     step (pass m ws) g ih h = ih m ws r p i h
     step (fault k q j) g ih h = g r p i h
 
+-- a leaf's entries refuse nothing
+seek-answers : (es : List (Item Value)) (key : Key) (q i r p j : ℕ) → seekFrom es key q i ≡ refused r p j → ⊥
+unfolding seekFrom
+seek-answers [] key q i r p j h = let z : _≡_ {A = ℕ} 0 1 = cc in omega arith
+seek-answers (x ∷ es) key q i r p j h = go (same (x .key) key) h (seek-answers es key q (suc i) r p j)
+  where
+    go : (t : Bool) → cond t (found x q i) (seekFrom es key q (suc i)) ≡ refused r p j → (seekFrom es key q (suc i) ≡ refused r p j → ⊥) → ⊥
+    go true g ih = let z : _≡_ {A = ℕ} 0 1 = cc in omega arith
+    go false g ih = ih g
+
 module _ (N : ℕ) (view : ℕ → Bool → View Value) (numbered : NumberedView view) where
   walk-faulted : (d : ℕ) (t : Bool) (q : ℕ) (low : Key) (high : Option Key) (vs : List ℕ) → Faulted (walk N view d t q low high vs)
   unfolding walk walkPage
@@ -114,24 +125,72 @@ module _ (N : ℕ) (view : ℕ → Bool → View Value) (numbered : NumberedView
       go true false h ih = page (view q t) refl ih h
       go false b h ih = let u : 2 ≡ r = cc in omega arith
 
--- ---- a judge that answers 0 has passed
-pub zero-passes : (image : List ℕ) (P N root f : ℕ) → judgedNumber (judgeOf image P N root f) ≡ 0 → Passes image P N root f
-unfolding judgeOf
-zero-passes image P N root f e = go (geometryBad image P N) refl e
+  look-faulted : (d : ℕ) (t : Bool) (q : ℕ) (key : Key) (r p i : ℕ) → lookup N view d t q key ≡ refused r p i → 0 < r
+  unfolding lookup lookPage
+  look-faulted zero t q key r p i e = let u : 9 ≡ r = cc in omega arith
+  look-faulted (suc d) t q key r p i e = go (inside N q) e (λ c. look-faulted d false c key r p i)
+    where
+      page : (v : View Value) → view q t ≡ v → ((c : ℕ) → lookup N view d false c key ≡ refused r p i → 0 < r)
+          → lookPage (λ c. lookup N view d false c key) v q key ≡ refused r p i → 0 < r
+      page (bad k j) f ih h = let u : k ≡ r = cc in numbered q t r j (f ∙ ap (λ (x : ℕ). bad x j) u)
+      page (branch cs) f ih h = ih (childFor cs key) h
+      page (leaf es) f ih h = absurd (seek-answers es key q 0 r p i h)
+
+      go : (a : Bool) → cond a (lookPage (λ c. lookup N view d false c key) (view q t) q key) (refused 2 q 0) ≡ refused r p i
+          → ((c : ℕ) → lookup N view d false c key ≡ refused r p i → 0 < r) → 0 < r
+      go true h ih = page (view q t) refl ih h
+      go false h ih = let u : 2 ≡ r = cc in omega arith
+
+-- ---- lookup
+pub lookup-numbered : (image : List ℕ) (P N root : ℕ) (key : Key) (x : Fault) → lookupOf image P N root key ≡ looked.Refused x → 0 < x .number
+unfolding lookupOf
+lookup-numbered image P N root key x e = go (geometryBad image P N) e
   where
-    listed : (vs : List ℕ) (n : ℕ) (v : Verdict) → Numbered v → judgedOf v f n (length (f ∷ vs)) ≡ judgeOf image P N root f → judgedNumber (judgedOf v f n (length (f ∷ vs))) ≡ 0 → Passes image P N root f
-    listed vs n verdict.Sound m j h = record { entries = n; blocks = length (f ∷ vs); passed = sym j }
-    listed vs n (verdict.Breach k i) m j h = absurd (let l = m k i refl in omega arith)
+    told : (a : Answer Value) → lookup N (viewOf image P N) 16 true root key ≡ a → lookedOf a ≡ looked.Refused x → 0 < x .number
+    told (refused r p i) f h =
+        let l = look-faulted N (viewOf image P N) (view-numbered image P N) 16 true root key r p i f in
+        let u : faultAt r p i ≡ x = cc in
+        let v : r ≡ x .number = ap (λ (y : Fault). y .number) u in
+        omega arith
+    told (found y p i) f h = absurd (let z : _≡_ {A = ℕ} 0 1 = cc in omega arith)
+    told absent f h = absurd (let z : _≡_ {A = ℕ} 0 1 = cc in omega arith)
 
-    tree : (w : Walk) → Faulted w → afterTree image P N f w ≡ judgeOf image P N root f → judgedNumber (afterTree image P N f w) ≡ 0 → Passes image P N root f
-    tree (pass n vs) g j h = listed vs n (freelistOf image P N f vs) (list-numbered image P N f vs) j h
-    tree (fault k p i) g j h = absurd (let l = g k p i refl in omega arith)
+    go : (t : Bool) → cond t (looked.Refused (faultAt 1 0 0)) (lookedOf (lookup N (viewOf image P N) 16 true root key)) ≡ looked.Refused x → 0 < x .number
+    go true h = let u : faultAt 1 0 0 ≡ x = cc in let v : 1 ≡ x .number = ap (λ (y : Fault). y .number) u in omega arith
+    go false h = told (lookup N (viewOf image P N) 16 true root key) refl h
 
-    go : (t : Bool) → geometryBad image P N ≡ t → judgedNumber (cond t (Refused (faultAt 1 0 0)) (afterTree image P N f (walk N (viewOf image P N) 16 true root [] none []))) ≡ 0 → Passes image P N root f
-    go true g h = absurd (omega arith)
-    go false g h =
-        tree (walk N (viewOf image P N) 16 true root [] none []) (walk-faulted N (viewOf image P N) (view-numbered image P N) 16 true root [] none [])
-        (rw g) h
+-- ---- the judge
+pub judge-numbered : (image : List ℕ) (P N root f : ℕ) (x : Fault) → judgeOf image P N root f ≡ Refused x → 0 < x .number
+unfolding judgeOf
+judge-numbered image P N root f x e = go (geometryBad image P N) e
+  where
+    listed : (n k : ℕ) (v : Verdict) → Numbered v → judgedOf v f n k ≡ Refused x → 0 < x .number
+    listed n k verdict.Sound m h = absurd (let z : _≡_ {A = ℕ} 0 1 = cc in omega arith)
+    listed n k (verdict.Breach r i) m h =
+        let l = m r i refl in
+        let u : faultAt r f i ≡ x = cc in
+        let v : r ≡ x .number = ap (λ (y : Fault). y .number) u in
+        omega arith
+
+    tree : (w : Walk) → Faulted w → afterTree image P N f w ≡ Refused x → 0 < x .number
+    tree (pass n vs) g h = listed n (length (f ∷ vs)) (freelistOf image P N f vs) (list-numbered image P N f vs) h
+    tree (fault r p i) g h =
+        let l = g r p i refl in
+        let u : faultAt r p i ≡ x = cc in
+        let v : r ≡ x .number = ap (λ (y : Fault). y .number) u in
+        omega arith
+
+    go : (t : Bool) → cond t (Refused (faultAt 1 0 0)) (afterTree image P N f (walk N (viewOf image P N) 16 true root [] none [])) ≡ Refused x → 0 < x .number
+    go true h = let u : faultAt 1 0 0 ≡ x = cc in let v : 1 ≡ x .number = ap (λ (y : Fault). y .number) u in omega arith
+    go false h = tree (walk N (viewOf image P N) 16 true root [] none []) (walk-faulted N (viewOf image P N) (view-numbered image P N) 16 true root [] none []) h
+
+-- a judge that answers 0 has passed
+pub zero-passes : (image : List ℕ) (P N root f : ℕ) → judgedNumber (judgeOf image P N root f) ≡ 0 → Passes image P N root f
+zero-passes image P N root f e = go (judgeOf image P N root f) refl e
+  where
+    go : (j : Judged) → judgeOf image P N root f ≡ j → judgedNumber j ≡ 0 → Passes image P N root f
+    go (Sound entries blocks) h z = record { entries = entries; blocks = blocks; passed = h }
+    go (Refused x) h z = absurd (let l = judge-numbered image P N root f x h in omega arith)
 
 -- ---- and then every lookup answers 0
 pub lookup-zero : (image : List ℕ) (P N root f : ℕ) → Passes image P N root f → (key : Key) → lookedNumber (lookupOf image P N root key) ≡ 0

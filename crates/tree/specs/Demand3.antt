@@ -31,27 +31,21 @@ pub record ByLeaf (image : List ℕ) (P N root : ℕ) (key : Key) (answer : Look
 pub record Demand3 {Lent : Type 0} (look : Lent → Key → Looked) (imageOf : Lent → List ℕ) (Same : Lent → Lent → Type 0) (P N root : ℕ) (lent : Lent) : Type 0 where
   -- no key is refused
   pub neverRefused : (key : Key) (x : Fault) → look lent key ≡ Refused x → ⊥
-
   -- the answer comes from a leaf that is reached by level 16
   pub reachesALeaf : (key : Key) → ByLeaf (imageOf lent) P N root key (look lent key)
-
   -- found exactly when some leaf reached from the root holds the key, with that entry's kind, place and length
   pub foundIff : (key : Key) (v : Value)
       → (look lent key ≡ Found v) ↔ ((page : ℕ) × (i : ℕ) × Holds (imageOf lent) P N root key page i × (v ≡ valueHeld (imageOf lent) P page i))
-
   -- and the bytes shown are that entry's value
   pub valueShown : (key : Key) (page i : ℕ) → Holds (imageOf lent) P N root key page i
       → valueIn (imageOf lent) (look lent key) ≡ valueOf true (blockOf (imageOf lent) P page) i
-
   -- absent exactly when none does
   pub absentIff : (key : Key) → (look lent key ≡ Absent) ↔ ((page i : ℕ) → Holds (imageOf lent) P N root key page i → ⊥)
-
   -- no second leaf entry has the key
   pub oneEntry : (key : Key) (page i page′ i′ : ℕ)
       → Holds (imageOf lent) P N root key page i
       → Holds (imageOf lent) P N root key page′ i′
       → (page ≡ page′) × (i ≡ i′)
-
   -- with bytes changed outside the blocks reached, every key has the same answer, and the same bytes are shown
   pub outsideFree : (lent′ : Lent) → Same lent lent′ → (key : Key)
       → (look lent′ key ≡ look lent key) × (valueIn (imageOf lent′) (look lent′ key) ≡ valueIn (imageOf lent) (look lent key))

@@ -1,0 +1,54 @@
+-- Theorem: a C function that returns 0 has not refused, whatever room its answer buffer has: `lookup-done`, `judge-done`, `meta-done`.
+-- Assumes nothing.
+use mathlib.Core.Path.{_≡_, sym, ap, _∙_}
+use mathlib.Core.Bool.{Bool, true, false, cond}
+use mathlib.Core.List.{List}
+use Prim.Native.Nat.{ℕ}
+use native.Mathlib.Omega.{arith}
+use Rattle.answer.specs.Answer.{tooShort, numberWith, toldNumber}
+use Rattle.meta.specs.Newest.{newestOf, newestFields}
+use Rattle.meta.specs.declared.newest.Newest.{Newest}
+use Rattle.meta.specs.declared.newest.Newest.the-variants as newest
+use Rattle.meta.proofs.NewestLaws.{newest-numbered}
+use Rattle.walk.specs.Tree.{Key}
+use Rattle.tree.specs.declared.lookup.Fault.{Fault}
+use Rattle.tree.specs.declared.lookup.Looked.{Looked}
+use Rattle.tree.specs.declared.lookup.Looked.the-variants as looked
+use Rattle.tree.specs.declared.judge.Judged.{Judged}
+use Rattle.tree.specs.declared.judge.Judged.the-variants as judged
+use Rattle.tree.specs.Lookup.{lookupOf}
+use Rattle.tree.specs.Judge.{judgeOf}
+use Rattle.tree.proofs.Numbers.{lookup-numbered, judge-numbered}
+use Rattle.shard.specs.Answer.{lookedFields, judgedFields}
+
+pub zero-told : (count number : ℕ) (answer : List ℕ) → numberWith count number answer ≡ 0 → number ≡ 0
+unfolding numberWith
+zero-told count number answer e = go (tooShort count answer) e
+  where
+    go : (t : Bool) → cond t 1 number ≡ 0 → number ≡ 0
+    go true h = absurd (omega arith)
+    go false h = h
+
+pub lookup-done : (image : List ℕ) (P N root : ℕ) (key : Key) (answer : List ℕ) → toldNumber (lookedFields (lookupOf image P N root key)) answer ≡ 0
+    → (x : Fault) → lookupOf image P N root key ≡ looked.Refused x → ⊥
+lookup-done image P N root key answer e x h =
+    let l = lookup-numbered image P N root key x h in
+    let z : numberWith 6 (x .number) answer ≡ 0 = sym (ap (λ (a : Looked). toldNumber (lookedFields a) answer) h) ∙ e in
+    let o = zero-told 6 (x .number) answer z in
+    omega arith
+
+pub judge-done : (image : List ℕ) (P N root f : ℕ) (answer : List ℕ) → toldNumber (judgedFields (judgeOf image P N root f)) answer ≡ 0
+    → (x : Fault) → judgeOf image P N root f ≡ judged.Refused x → ⊥
+judge-done image P N root f answer e x h =
+    let l = judge-numbered image P N root f x h in
+    let z : numberWith 4 (x .number) answer ≡ 0 = sym (ap (λ (a : Judged). toldNumber (judgedFields a) answer) h) ∙ e in
+    let o = zero-told 4 (x .number) answer z in
+    omega arith
+
+pub meta-done : (image : List ℕ) (p : ℕ) (answer : List ℕ) → toldNumber (newestFields (newestOf image p)) answer ≡ 0
+    → (k : ℕ) → newestOf image p ≡ newest.Refused k → ⊥
+meta-done image p answer e k h =
+    let l = newest-numbered image p k h in
+    let z : numberWith 7 k answer ≡ 0 = sym (ap (λ (a : Newest). toldNumber (newestFields a) answer) h) ∙ e in
+    let o = zero-told 7 k answer z in
+    omega arith
