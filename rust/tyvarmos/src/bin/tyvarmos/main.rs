@@ -28,7 +28,7 @@ fn main() -> ExitCode {
 /// Does what the command line asks for, and answers the exit status.
 fn run() -> Result<u8, Stop> {
     match args::parse(std::env::args_os().skip(1)).map_err(Stop::Usage)? {
-        Wanted::Help => put(format!("{}\n{}\n", help::SHORT, help::LONG).as_bytes()).map(|()| 0),
+        Wanted::Help => put(help::LONG.as_bytes()).map(|()| 0),
         Wanted::Version => put(concat!("tyvarmos ", env!("CARGO_PKG_VERSION"), "\n").as_bytes()).map(|()| 0),
         Wanted::Work(options) if options.action == Action::Get => get::run(&options),
         Wanted::Work(options) => tell_verdict(&options),

@@ -28,7 +28,7 @@ impl Stop {
     pub fn tell(&self) -> u8 {
         match self {
             Stop::Usage(why) => {
-                tell(&format!("{why}\n{}", help::SHORT));
+                tell(&format!("{why}\n{}", help::usage()));
                 64
             }
             Stop::Unreadable(why) => {
