@@ -1,4 +1,4 @@
-//! Links libshard.a from TYVARMOS_LIB, or from target/staticlib at the repository's top.
+//! Links libshard.a from the folder that TYVARMOS_LIB names, or from target/staticlib at the repository's top.
 
 use std::path::{Path, PathBuf};
 use std::{env, process};
@@ -10,7 +10,8 @@ fn main() {
     println!("cargo:rerun-if-changed={}", library.display());
     if !library.is_file() {
         eprintln!(
-            "no {}: run tools/staticlib shard at the repository's top, which proves and writes it",
+            "tyvarmos: there is no {}: run `tools/staticlib shard` at the repository's top, which proves and writes it, \
+             or name the folder that has a libshard.a in TYVARMOS_LIB",
             library.display()
         );
         process::exit(1);
@@ -19,7 +20,7 @@ fn main() {
     println!("cargo:rustc-link-lib=static=shard");
 }
 
-/// The folder that holds the library.
+/// The folder that is to hold the library.
 fn folder() -> PathBuf {
     let top = Path::new(env!("CARGO_MANIFEST_DIR")).join("../..");
     let folder = env::var_os("TYVARMOS_LIB").map_or(top.join("target/staticlib"), PathBuf::from);

@@ -10,8 +10,10 @@ pub enum Kind {
 }
 
 /// A leaf entry found in an image.
-#[derive(Clone, Copy, Debug, PartialEq, Eq)]
+#[derive(Clone, Copy, Debug, PartialEq, Eq, Hash)]
+#[non_exhaustive]
 pub struct Entry<'a> {
+    /// What the value is.
     pub kind: Kind,
     /// The value: a part of the image, not a copy.
     pub value: &'a [u8],
@@ -21,6 +23,7 @@ pub struct Entry<'a> {
 
 /// The value of a bucket entry.
 #[derive(Clone, Copy, Debug, PartialEq, Eq, Hash)]
+#[non_exhaustive]
 pub struct Bucket {
     /// The page at which the bucket's tree starts.
     pub root_page: u64,
@@ -30,6 +33,7 @@ pub struct Bucket {
 
 impl Entry<'_> {
     /// The bucket, where the entry is one.
+    #[must_use]
     pub fn bucket(&self) -> Option<Bucket> {
         let (root_page, rest) = self.value.split_first_chunk()?;
         let next_int = rest.try_into().ok()?;

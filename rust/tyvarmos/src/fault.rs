@@ -1,69 +1,91 @@
-//! A refusal, and the sentence for each number.
+//! A refusal.
 
 use std::error::Error;
 use std::fmt;
 
-/// Why an image was refused: the number of the rule, and the page and element that broke it, 0 where none.
+use crate::{Geometry, Number};
+
+/// Why an image was refused: the rule, and the page and element that broke it.
 ///
 /// ```
-/// let fault = tyvarmos::Fault { number: 9, page: 17, element: 0 };
+/// use tyvarmos::{Fault, Number};
+///
+/// let fault = Fault::at_page(Number::TooDeep, 17);
 /// assert_eq!(fault.to_string(), "page 17: the tree is deeper than 16 levels (9)");
 /// ```
 #[derive(Clone, Copy, Debug, PartialEq, Eq, Hash)]
+#[non_exhaustive]
 pub struct Fault {
-    pub number: u64,
-    pub page: u64,
-    pub element: u64,
+    /// The rule that was broken.
+    pub number: Number,
+    /// The page that broke it. None for [`Number::Geometry`] and for meta pages.
+    pub page: Option<u64>,
+    /// The element of that page, or the free id, counted from 0. None where the page as a whole broke the rule.
+    pub element: Option<u64>,
+    /// Which sizes are wrong, where it is sizes that are.
+    pub geometry: Option<Geometry>,
 }
 
 impl Fault {
-    /// What the number means, in words.
-    pub fn meaning(&self) -> &'static str {
-        match self.number {
-            1 => {
-                "the page size must be 1,024 to 65,536 and a multiple of 8, the page count 2 to 32,768, \
-                 and the bytes must hold that many pages"
-            }
-            2 => "the page named here is not one from page 2 to the last page",
-            3 => "the header is not that of the page wanted: another id, another type, or a block past the last page",
-            4 => "the count of elements is 0 where it may not be, or more than the block can hold",
-            5 => {
-                "this element's key or value is not inside the block, its kind is unknown, \
-                 its bucket value is not 16 bytes, or it is a free id that is no page"
-            }
-            6 => "this key (in a freelist, this id) is not above the one before it",
-            7 => "this key is outside the range that the branches above give its page",
-            8 => "the page is reached twice, or a free id is a page in use",
-            9 => "the tree is deeper than 16 levels",
-            10 => "the output is too short",
-            11 => "an argument is not allowed, or the meta page is one of another page size",
-            12 => "no page is free and the page count cannot grow",
-            13 => "the hash of the meta page is wrong",
-            14 => "the key is in conflict with those that are there",
-            15 => "the node is above 1,048,576 bytes",
-            _ => "an unknown number",
+    /// The fault that names no page.
+    #[must_use]
+    pub const fn new(number: Number) -> Fault {
+        Fault { number, page: None, element: None, geometry: None }
+    }
+
+    /// The fault that names a page as a whole.
+    #[must_use]
+    pub const fn at_page(number: Number, page: u64) -> Fault {
+        Fault { page: Some(page), ..Fault::new(number) }
+    }
+
+    /// The fault that names an element of a page.
+    #[must_use]
+    pub const fn at_element(number: Number, page: u64, element: u64) -> Fault {
+        Fault { element: Some(element), ..Fault::at_page(number, page) }
+    }
+
+    /// Whether it says that the file is beyond the limits of this version, and nothing about damage.
+    #[must_use]
+    pub fn is_limit(&self) -> bool {
+        self.geometry.is_some_and(Geometry::is_limit)
+    }
+
+    /// The fault with a number, page and element as the C functions answer them, where a 0 may stand for none.
+    pub(crate) fn answered(code: u64, page: u64, element: u64) -> Fault {
+        let number = Number::from(code);
+        match number {
+            Number::PageNumber | Number::Header | Number::Table | Number::TooDeep => Fault::at_page(number, page),
+            Number::Element | Number::Order | Number::Range => Fault::at_element(number, page, element),
+            Number::ReachedTwice => Fault { page: Some(page), element: above_0(element), ..Fault::new(number) },
+            _ => Fault { page: above_0(page), element: above_0(element), ..Fault::new(number) },
         }
     }
+}
 
-    /// Whether the number names a page.
-    pub fn names_page(&self) -> bool {
-        self.page != 0 || matches!(self.number, 2 | 9)
-    }
+/// The number, or none for 0.
+fn above_0(number: u64) -> Option<u64> {
+    (number > 0).then_some(number)
+}
 
-    /// Whether the number names an element: 5, 6 and 7 do, and 8 for a free id.
-    pub fn names_element(&self) -> bool {
-        self.names_page() && (matches!(self.number, 5..=7) || self.element != 0)
+impl From<Geometry> for Fault {
+    /// The refusal with [`Number::Geometry`] for this cause.
+    fn from(geometry: Geometry) -> Fault {
+        Fault { geometry: Some(geometry), ..Fault::new(Number::Geometry) }
     }
 }
 
 impl fmt::Display for Fault {
-    fn fmt(&self, f: &mut fmt::Formatter) -> fmt::Result {
-        match (self.names_page(), self.names_element()) {
-            (true, true) => write!(f, "page {}, element {}: ", self.page, self.element)?,
-            (true, false) => write!(f, "page {}: ", self.page)?,
-            (false, _) => {}
+    fn fmt(&self, f: &mut fmt::Formatter<'_>) -> fmt::Result {
+        match (self.page, self.element) {
+            (Some(page), Some(element)) => write!(f, "page {page}, element {element}: ")?,
+            (Some(page), None) => write!(f, "page {page}: ")?,
+            (None, _) => {}
         }
-        write!(f, "{} ({})", self.meaning(), self.number)
+        match self.geometry {
+            Some(geometry) => write!(f, "{geometry} ({})", self.number.code()),
+            None => self.number.fmt(f),
+        }
     }
 }
 

@@ -23,42 +23,64 @@
 //!
 //! ```
 //! # fn main() -> Result<(), Box<dyn std::error::Error>> {
+//! use tyvarmos::{Meta, Number};
+//!
 //! let mut bytes = std::fs::read("../../examples/shard.db")?;
-//! let meta = tyvarmos::Meta::of(&bytes)?;
-//! let root = (meta.root_page * meta.pagesize) as usize;
+//! let meta = Meta::of(&bytes)?;
+//! let root = (meta.root_page * meta.page_size) as usize;
 //! bytes[root + 32 + 8] = 0;
 //! let fault = meta.image(&bytes).lookup(b"world").unwrap_err();
-//! assert_eq!((fault.number, fault.page, fault.element), (5, meta.root_page, 0));
+//! assert_eq!((fault.number, fault.page, fault.element), (Number::Element, Some(meta.root_page), Some(0)));
 //! # Ok(())
 //! # }
 //! ```
+//!
+//! A file beyond the limits of this version, more than 32,768 pages or a page size other than the multiples of 8 from
+//! 1,024 to 65,536, is refused as well, and [`Fault::is_limit`] tells that from damage.
 //!
 //! # What is proved and what is not
 //!
 //! Lookup, the judge and the choice of the meta page are C functions of libshard.a, whose answers are proved for every
 //! input; the repository's docs/PROMISES.md has the statements. This crate passes slices to them and gives types to
-//! their answers; it is not proved, and has no `unsafe` besides these calls and [`Mapped`].
+//! their answers. It is not proved, it is tested, and it has no `unsafe` besides these calls.
 //!
-//! A [`Sound`] image borrows its bytes, so nothing in the program can change them while it lives. A mapped file can be
-//! changed by another process, which no borrow prevents: that is why [`Mapped::new`] is unsafe. Where a file is in use
-//! or its disk is in doubt, read it into memory.
+//! # Mapped files
+//!
+//! A [`Sound`] image borrows its bytes, so nothing in the program can change them while it lives. All calls take
+//! `&[u8]`, which the mappings of the crate memmap2 give as well: `Image::of_file(&mmap)`. To make such a mapping is
+//! unsafe, since another process can change or shorten the file, which no borrow prevents; whoever maps a file answers
+//! for that. The file is then another image than the one that was judged: [`Sound::get`] may panic or miss a key, and a
+//! page that cannot be read ends the process by a signal. Where a file is in use or its disk is in doubt, read it into
+//! memory.
 //!
 //! # Building
 //!
 //! The library is looked for in target/staticlib at the repository's top, where `tools/staticlib shard` writes it, or
-//! in the folder that the environment variable TYVARMOS_LIB names.
+//! in the folder that the environment variable `TYVARMOS_LIB` names. It is for 64-bit, little-endian machines.
+//!
+//! `rust-version` is what the std calls used here need, as clippy sees it. Only Rust 1.95 was run.
+
+#![deny(missing_docs, unsafe_code)]
+#![warn(missing_debug_implementations, unreachable_pub)]
+#![warn(clippy::must_use_candidate, clippy::missing_errors_doc, clippy::missing_panics_doc)]
 
 mod entry;
 mod fault;
+mod geometry;
 mod image;
-#[cfg(unix)]
-mod mapped;
 mod meta;
+mod metas;
+mod number;
 mod raw;
+mod sound;
+mod tree;
 
 pub use entry::{Bucket, Entry, Kind};
 pub use fault::Fault;
-pub use image::{Image, Sound};
-#[cfg(unix)]
-pub use mapped::Mapped;
+pub use geometry::Geometry;
+pub use image::Image;
 pub use meta::Meta;
+pub use metas::Metas;
+pub use number::Number;
+pub use sound::Sound;
+pub use tree::Tree;

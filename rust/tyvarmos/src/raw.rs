@@ -1,16 +1,20 @@
 //! The C functions of libshard.a, each in a safe call. A slice passes as pointer and length, the answer buffer last.
 
+#![allow(unsafe_code)]
+
+use crate::Tree;
+
 #[cfg(not(all(target_pointer_width = "64", target_endian = "little")))]
 compile_error!("libshard.a is for 64-bit, little-endian machines");
 
 #[rustfmt::skip]
 extern "C" {
     fn tyvarmos_lookup(
-        image: *const u8, image_len: usize, page_size: u64, page_count: u64, root: u64,
+        image: *const u8, image_len: usize, page_size: u64, page_count: u64, root_page: u64,
         key: *const u8, key_len: usize, answer: *mut u8, answer_len: usize,
     ) -> u64;
     fn tyvarmos_judge(
-        image: *const u8, image_len: usize, page_size: u64, page_count: u64, root: u64, freelist_page: u64,
+        image: *const u8, image_len: usize, page_size: u64, page_count: u64, root_page: u64, freelist_page: u64,
         answer: *mut u8, answer_len: usize,
     ) -> u64;
     fn tyvarmos_meta(
@@ -19,28 +23,30 @@ extern "C" {
 }
 
 /// A call's number and the fields that it wrote.
-pub type Answer<const FIELDS: usize> = (u64, [u64; FIELDS]);
+pub(crate) type Answer<const FIELDS: usize> = (u64, [u64; FIELDS]);
 
 /// The number; found, kind, place, length, page, element.
-pub fn lookup(image: &[u8], page_size: u64, page_count: u64, root: u64, key: &[u8]) -> Answer<6> {
+pub(crate) fn lookup(image: &[u8], tree: &Tree, key: &[u8]) -> Answer<6> {
     let (start, length) = (image.as_ptr(), image.len());
+    let Tree { page_size, page_count, root_page, .. } = *tree;
     // SAFETY: both slices are lent for reading, and the answer buffer has room for the six fields.
     ask(|answer, room| unsafe {
-        tyvarmos_lookup(start, length, page_size, page_count, root, key.as_ptr(), key.len(), answer, room)
+        tyvarmos_lookup(start, length, page_size, page_count, root_page, key.as_ptr(), key.len(), answer, room)
     })
 }
 
 /// The number; entries, blocks, page, element.
-pub fn judge(image: &[u8], page_size: u64, page_count: u64, root: u64, freelist_page: u64) -> Answer<4> {
+pub(crate) fn judge(image: &[u8], tree: &Tree) -> Answer<4> {
     let (start, length) = (image.as_ptr(), image.len());
+    let Tree { page_size, page_count, root_page, freelist_page } = *tree;
     // SAFETY: the image is lent for reading, and the answer buffer has room for the four fields.
     ask(|answer, room| unsafe {
-        tyvarmos_judge(start, length, page_size, page_count, root, freelist_page, answer, room)
+        tyvarmos_judge(start, length, page_size, page_count, root_page, freelist_page, answer, room)
     })
 }
 
 /// The number; meta page, page size, root page, next int, page count, freelist page, transaction.
-pub fn meta(image: &[u8], page_size: u64) -> Answer<7> {
+pub(crate) fn meta(image: &[u8], page_size: u64) -> Answer<7> {
     let (start, length) = (image.as_ptr(), image.len());
     // SAFETY: the image is lent for reading, and the answer buffer has room for the seven fields.
     ask(|answer, room| unsafe { tyvarmos_meta(start, length, page_size, answer, room) })

@@ -4,7 +4,7 @@ use reading::block::Entry;
 use reading::pack::{pack, Node};
 use tyvarmos::{Fault, Image, Kind, Meta};
 
-use crate::breaches;
+use crate::breaches::{self, Breach};
 use crate::damage::damage;
 use crate::files::{run, run_on, Done, Temporary};
 use crate::listing::entries;
@@ -50,7 +50,8 @@ fn judge_names_each_breach() {
         let begin = format!("{}: refused\n  {}\n", file.path.display(), breach.sentence);
         assert!(done.text().starts_with(&begin), "{}", done.text());
         let json = run_with("judge", &file, &["--json"], breach.sizes);
-        let Fault { number, page, element } = breach.fault;
+        let Fault { number, page, element, .. } = breach.fault;
+        let (number, page, element) = (number.code(), page.unwrap_or(0), element.unwrap_or(0));
         let sentence = breach.sentence;
         let named = format!("\"number\":{number},\"page\":{page},\"element\":{element}");
         let end = format!("\"verdict\":\"refused\",{named},\"sentence\":\"{sentence}\"}}\n");
@@ -61,24 +62,24 @@ fn judge_names_each_breach() {
 
 #[test]
 fn judge_shows_the_bytes_of_a_breach() {
-    let shown = |number: u64, element: u64| {
-        let breach =
-            breaches::all().into_iter().find(|b| (b.fault.number, b.fault.element) == (number, element)).unwrap();
+    let shown = |number: u64, element: Option<u64>| {
+        let asked = |b: &Breach| (b.fault.number.code(), b.fault.element) == (number, element);
+        let breach = breaches::all().into_iter().find(asked).unwrap();
         let file = Temporary::file("shown", &breach.bytes);
         run_with("judge", &file, &[], breach.sizes).text().to_string()
     };
     let header = "  its header, at byte 8192:\n    00002000  04 00 00 00 00 00 00 00 02 00 00 00 00 00 00 00  .";
-    assert!(shown(3, 0).contains(header));
-    assert!(shown(5, 1)
+    assert!(shown(3, None).contains(header));
+    assert!(shown(5, Some(1))
         .contains("  element 1, at byte 4160:\n    00001040  00 00 00 00 00 00 00 00 ff ff ff ff ff ff ff ff  "));
     let before = "  key 0, at byte 4224:\n    00001080  61 62                                            ab\n";
     let after = "  key 1, at byte 4236:\n    0000108c  61                                               a\n";
-    assert!(shown(6, 1).ends_with(&format!("{before}{after}")));
-    assert!(shown(7, 0)
+    assert!(shown(6, Some(1)).ends_with(&format!("{before}{after}")));
+    assert!(shown(7, Some(0))
         .contains("  key 0, at byte 10400:\n    000028a0  73                                               s\n"));
-    assert!(shown(8, 1).contains("  free id 1, at byte 2088:\n    00000828  0a 00 00 00 00 00 00 00 "));
-    assert!(shown(8, 0).contains("  its header, at byte 8192:\n"));
-    assert!(!shown(2, 0).contains("at byte"));
+    assert!(shown(8, Some(1)).contains("  free id 1, at byte 2088:\n    00000828  0a 00 00 00 00 00 00 00 "));
+    assert!(shown(8, None).contains("  its header, at byte 8192:\n"));
+    assert!(!shown(2, None).contains("at byte"));
 }
 
 #[test]

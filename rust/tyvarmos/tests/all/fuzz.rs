@@ -4,9 +4,10 @@ use std::collections::BTreeMap;
 
 use reading::judge::judge;
 use reading::lookup::{lookup, Found};
-use tyvarmos::{Entry, Fault, Image, Kind, Meta};
+use tyvarmos::{Fault, Image, Kind, Meta, Number};
 
 use crate::damage::damage;
+use crate::listing::Listed;
 use crate::rng::Rng;
 use crate::{example, small};
 
@@ -16,29 +17,37 @@ type Numbers = BTreeMap<u64, usize>;
 /// The numbers of an image: page size, page count, root, freelist page.
 type Sizes = [u64; 4];
 
-fn image(bytes: &[u8], [page_size, page_count, root, freelist]: Sizes) -> Image<'_> {
-    Image::new(bytes, page_size, page_count, root, freelist)
+fn image(bytes: &[u8], sizes: Sizes) -> Image<'_> {
+    Image::new(bytes, small::tree(sizes))
 }
 
-/// The plain reading's fault as the wrapper's.
-fn fault(fault: reading::Fault) -> Fault {
-    Fault { number: fault.number, page: fault.page, element: fault.element }
+/// The wrapper's fault as the plain reading's, where 0 stands for none; what it names fits its number.
+fn plain(fault: Fault) -> reading::Fault {
+    let named = (fault.page.is_some(), fault.element.is_some());
+    match fault.number.code() {
+        1 => assert_eq!((named, fault.geometry.is_some()), ((false, false), true)),
+        2..=4 | 9 => assert_eq!(named, (true, false)),
+        5..=7 => assert_eq!(named, (true, true)),
+        _ => assert!(named.0 && fault.number == Number::ReachedTwice),
+    }
+    let (page, element) = (fault.page.unwrap_or(0), fault.element.unwrap_or(0));
+    reading::Fault { number: fault.number.code(), page, element }
 }
 
 /// The plain reading's find as the wrapper's.
-fn entry(bytes: &[u8], found: Found) -> Entry<'_> {
+fn listed(bytes: &[u8], found: Found) -> Listed<'_> {
     let (place, length) = (found.place as usize, found.length as usize);
     let kind = if found.kind == 0 { Kind::Data } else { Kind::Bucket };
-    Entry { kind, value: &bytes[place..place + length], place }
+    Listed { kind, value: &bytes[place..place + length], place }
 }
 
 /// Checks the judge's verdict and adds its number.
 fn check_judge(bytes: &[u8], sizes: Sizes, numbers: &mut Numbers) {
     let [p, n, root, freelist] = sizes;
     let judged = image(bytes, sizes).judge().map(|sound| (sound.entries(), sound.pages()));
-    let plain = judge(bytes, p, n, root, freelist).map(|sound| (sound.entries, sound.blocks));
-    assert_eq!(judged, plain.map_err(fault), "{sizes:?}");
-    *numbers.entry(judged.map_or_else(|fault| fault.number, |_| 0)).or_default() += 1;
+    let read = judge(bytes, p, n, root, freelist).map(|sound| (sound.entries, sound.blocks));
+    assert_eq!(judged.map_err(plain), read, "{sizes:?}");
+    *numbers.entry(judged.map_or_else(|fault| fault.number.code(), |_| 0)).or_default() += 1;
 }
 
 /// Checks a lookup, and `get` where the image is sound, and adds the number.
@@ -46,12 +55,12 @@ fn check_lookup(bytes: &[u8], sizes: Sizes, key: &[u8], numbers: &mut Numbers) {
     let [p, n, root, _] = sizes;
     let image = image(bytes, sizes);
     let looked = image.lookup(key);
-    let plain = lookup(bytes, p, n, root, key).map(|found| found.map(|found| entry(bytes, found)));
-    assert_eq!(looked, plain.map_err(fault), "{sizes:?}, {key:?}");
+    let read = lookup(bytes, p, n, root, key).map(|found| found.map(|found| listed(bytes, found)));
+    assert_eq!(looked.map(|entry| entry.map(Listed::from)).map_err(plain), read, "{sizes:?}, {key:?}");
     if let Ok(sound) = image.judge() {
         assert_eq!(Ok(sound.get(key)), looked, "{sizes:?}, {key:?}");
     }
-    *numbers.entry(looked.map_or_else(|fault| fault.number, |_| 0)).or_default() += 1;
+    *numbers.entry(looked.map_or_else(|fault| fault.number.code(), |_| 0)).or_default() += 1;
 }
 
 /// The sizes, at times with one of them changed.
@@ -116,8 +125,8 @@ fn damaged_copies_of_the_example() {
         for _ in 0..1 + rng.below(20) {
             damage(&mut rng, &mut bytes, small::P as usize);
         }
-        let root = rng.pick(&[main.root(), characters.root(), bags.root()]);
-        let sizes = [meta.pagesize, meta.num_pages, root, meta.freelist_page];
+        let root = rng.pick(&[main, characters, bags].map(|image| image.tree().root_page));
+        let sizes = [meta.page_size, meta.page_count, root, meta.freelist_page];
         check_judge(&bytes, sizes, &mut judged);
         for _ in 0..3 {
             check_lookup(&bytes, sizes, &keys[rng.below(keys.len())], &mut looked);

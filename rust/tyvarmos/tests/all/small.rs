@@ -4,7 +4,7 @@ use reading::block::Entry;
 use reading::layout::put_u64;
 use reading::meta::{self, Meta};
 use reading::pack::{pack, Node};
-use tyvarmos::Image;
+use tyvarmos::{Image, Tree};
 
 pub const P: u64 = 1_024;
 pub const N: u64 = 12;
@@ -50,9 +50,17 @@ pub fn image() -> Vec<u8> {
     image
 }
 
+/// The tree with the image's own numbers.
+pub const TREE: Tree = tree([P, N, ROOT, FREELIST]);
+
+/// The tree with these numbers: page size, page count, root page, freelist page.
+pub const fn tree([page_size, page_count, root_page, freelist_page]: [u64; 4]) -> Tree {
+    Tree { page_size, page_count, root_page, freelist_page }
+}
+
 /// The image with its own numbers.
 pub fn of(bytes: &[u8]) -> Image<'_> {
-    Image::new(bytes, P, N, ROOT, FREELIST)
+    Image::new(bytes, TREE)
 }
 
 /// Writes a meta page that names the small image's root and freelist.

@@ -1,7 +1,6 @@
 //! Bad arguments, help, files that cannot be read, and outputs that cannot be written.
 
 use std::fs::{self, File, Permissions};
-use std::io::ErrorKind;
 use std::os::unix::fs::PermissionsExt;
 use std::os::unix::process::CommandExt;
 use std::process::{Command, Output, Stdio};
@@ -10,6 +9,7 @@ use crate::files::{command, run, run_on, Done, Temporary};
 use crate::{small, EXAMPLE};
 
 const NOBODY: u32 = 65_534;
+const TEXT_FILE_BUSY: i32 = 26;
 
 #[test]
 fn bad_arguments_are_64() {
@@ -98,7 +98,7 @@ fn a_file_without_permission_is_66() {
 fn run_copied(command: &mut Command) -> Output {
     loop {
         match command.output() {
-            Err(error) if error.kind() == ErrorKind::ExecutableFileBusy => {}
+            Err(error) if error.raw_os_error() == Some(TEXT_FILE_BUSY) => {}
             done => return done.unwrap(),
         }
     }

@@ -6,7 +6,7 @@ use std::io::{ErrorKind, Seek, SeekFrom};
 use std::os::unix::fs::{FileExt, FileTypeExt};
 use std::path::{Path, PathBuf};
 
-use tyvarmos::Image;
+use tyvarmos::{Fault, Image, Number};
 
 use crate::stop::Stop;
 use crate::tree::Tree;
@@ -91,16 +91,16 @@ impl<'a> Pages<'a> {
 
     /// The tree under a root in the pages read so far.
     pub fn image(&self, root: u64) -> Image<'_> {
-        self.tree.image(&self.bytes).with_root(root)
+        self.tree.image(&self.bytes).with_root_page(root)
     }
 
     /// Reads all pages on the way to a key.
     pub fn reach(&mut self, root: u64, key: &[u8]) -> Result<(), Stop> {
-        while let Err(fault) = self.image(root).lookup(key) {
-            if fault.number != 3 || !self.read.insert(fault.page) {
+        while let Err(Fault { number: Number::Header, page: Some(page), .. }) = self.image(root).lookup(key) {
+            if !self.read.insert(page) {
                 break;
             }
-            self.read_block(fault.page)?;
+            self.read_block(page)?;
         }
         Ok(())
     }

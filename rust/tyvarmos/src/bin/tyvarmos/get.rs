@@ -22,7 +22,7 @@ pub fn run(options: &Options) -> Result<u8, Stop> {
     for name in &options.buckets {
         pages.reach(root, name)?;
         root = match tree::bucket(pages.image(root), name) {
-            Ok(bucket) => bucket.root(),
+            Ok(bucket) => bucket.tree().root_page,
             Err(Missing::Refused(fault)) => return refused(options, &fault, &fault.to_string()),
             Err(Missing::Absent(why)) => return absent(options, &why),
         };

@@ -86,9 +86,9 @@ fn add_tree(object: &mut Object, tree: &Tree, root: u64) {
 
 fn add_refusal(object: &mut Object, fault: &Fault, sentence: &str) {
     object.text("verdict", "refused");
-    object.number("number", fault.number);
-    object.number("page", fault.page);
-    object.number("element", fault.element);
+    object.number("number", fault.number.code());
+    object.number("page", fault.page.unwrap_or(0));
+    object.number("element", fault.element.unwrap_or(0));
     object.text("sentence", sentence);
 }
 

@@ -1,6 +1,6 @@
 //! Which tree of a file is meant.
 
-use tyvarmos::{Fault, Image, Meta};
+use tyvarmos::{self as library, Fault, Image, Meta};
 
 use crate::args::{Action, Options};
 use crate::hex;
@@ -29,8 +29,8 @@ impl Tree {
         let meta = meta?;
         Ok(Tree {
             meta: Some(meta),
-            page_size: meta.pagesize,
-            page_count: options.page_count.unwrap_or(meta.num_pages),
+            page_size: meta.page_size,
+            page_count: options.page_count.unwrap_or(meta.page_count),
             root: options.root.unwrap_or(meta.root_page),
             freelist: options.freelist.unwrap_or(meta.freelist_page),
         })
@@ -38,7 +38,8 @@ impl Tree {
 
     /// The image of this tree in the file's bytes.
     pub fn image<'a>(&self, bytes: &'a [u8]) -> Image<'a> {
-        Image::new(bytes, self.page_size, self.page_count, self.root, self.freelist)
+        let Tree { page_size, page_count, root: root_page, freelist: freelist_page, .. } = *self;
+        Image::new(bytes, library::Tree { page_size, page_count, root_page, freelist_page })
     }
 
     /// The bytes that the image takes, where the sizes are allowed.
@@ -60,7 +61,7 @@ pub fn bucket<'a>(image: Image<'a>, name: &[u8]) -> Result<Image<'a>, Missing> {
         return Err(Missing::Absent(format!("there is no bucket {}", hex::shown(name))));
     };
     match entry.bucket() {
-        Some(bucket) => Ok(image.with_root(bucket.root_page)),
+        Some(bucket) => Ok(image.with_root_page(bucket.root_page)),
         None => Err(Missing::Absent(format!("{} is a value, not a bucket", hex::shown(name)))),
     }
 }

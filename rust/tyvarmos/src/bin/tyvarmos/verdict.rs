@@ -61,8 +61,8 @@ fn judged(main: Image, options: &Options) -> (u64, Outcome) {
     for name in &options.buckets {
         match tree::bucket(image, name) {
             Ok(bucket) => image = bucket,
-            Err(Missing::Refused(fault)) => return (image.root(), refused(&image, fault)),
-            Err(Missing::Absent(why)) => return (image.root(), Outcome::Absent(why)),
+            Err(Missing::Refused(fault)) => return (image.tree().root_page, refused(&image, fault)),
+            Err(Missing::Absent(why)) => return (image.tree().root_page, Outcome::Absent(why)),
         }
     }
     let _judging = Progress::start(format!("judging {}", options.file.display()));
@@ -71,13 +71,13 @@ fn judged(main: Image, options: &Options) -> (u64, Outcome) {
         Ok(sound) => passed(&sound, start.elapsed()),
         Err(fault) => refused(&image, fault),
     };
-    (image.root(), outcome)
+    (image.tree().root_page, outcome)
 }
 
 /// The outcome of a sound image.
 fn passed(sound: &Sound, time: Duration) -> Outcome {
     let image = sound.image();
-    let freelist = (image.freelist_page() * image.page_size()) as usize;
+    let freelist = (image.tree().freelist_page * image.tree().page_size) as usize;
     let count = &image.bytes()[freelist + COUNT_AT..][..8];
     let free_pages = count.try_into().map_or(0, u64::from_le_bytes);
     Outcome::Sound { entries: sound.entries(), blocks: sound.pages(), free_pages, time }

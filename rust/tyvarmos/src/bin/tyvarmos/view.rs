@@ -1,6 +1,6 @@
 //! The bytes that broke a rule, for a person to look at.
 
-use tyvarmos::{Fault, Image};
+use tyvarmos::{Fault, Image, Number};
 
 use crate::hex;
 
@@ -18,17 +18,17 @@ struct Block<'a> {
 
 /// The header, element, id or keys that a fault is about, in rows; nothing where the image has no such page.
 pub fn of(image: &Image, fault: &Fault) -> String {
-    let Some(block) = Block::at(image, fault.page) else {
+    let Some(block) = fault.page.and_then(|page| Block::at(image, page)) else {
         return String::new();
     };
-    let i = fault.element as usize;
+    let i = fault.element.unwrap_or(0) as usize;
     let parts = match fault.number {
-        3 | 4 | 9 => [block.header(), None],
-        8 if block.kind != FREELIST => [block.header(), None],
-        6 if block.kind == FREELIST => [i.checked_sub(1).and_then(|i| block.element(i)), block.element(i)],
-        5 | 8 => [block.element(i), None],
-        6 => [i.checked_sub(1).and_then(|i| block.key(i)), block.key(i)],
-        7 => [block.element(i), block.key(i)],
+        Number::Header | Number::Table | Number::TooDeep => [block.header(), None],
+        Number::ReachedTwice if fault.element.is_none() => [block.header(), None],
+        Number::Order if block.kind == FREELIST => [i.checked_sub(1).and_then(|i| block.element(i)), block.element(i)],
+        Number::Element | Number::ReachedTwice => [block.element(i), None],
+        Number::Order => [i.checked_sub(1).and_then(|i| block.key(i)), block.key(i)],
+        Number::Range => [block.element(i), block.key(i)],
         _ => [None, None],
     };
     parts.into_iter().flatten().map(|part| part.rows()).collect()
@@ -61,9 +61,9 @@ impl Part<'_> {
 impl<'a> Block<'a> {
     /// The block of a page of the image.
     fn at(image: &Image<'a>, page: u64) -> Option<Block<'a>> {
-        let start = usize::try_from(page.checked_mul(image.page_size())?).ok()?;
+        let start = usize::try_from(page.checked_mul(image.tree().page_size)?).ok()?;
         let kind = *image.bytes().get(start.checked_add(8)?)?;
-        (page < image.page_count()).then_some(Block { bytes: image.bytes(), start, kind })
+        (page < image.tree().page_count).then_some(Block { bytes: image.bytes(), start, kind })
     }
 
     /// Its header.
