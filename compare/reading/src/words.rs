@@ -1,4 +1,4 @@
-//! The lent form of the table (DESIGN, "Freelist"): free bits, pending bits, then a transaction number for each page.
+//! The lent form of the table (docs/PROBE.md): free bits, pending bits, then a transaction number for each page.
 
 use crate::freelist::{State, Table};
 use crate::layout::MAX_PAGES;

@@ -1,4 +1,4 @@
-//! What is compared: the calls of DESIGN's two tables ("C functions"), by whoever answers them.
+//! What is compared: the calls of include/tyvarmos.h and docs/PROBE.md, by whoever answers them.
 
 /// A number given back and the fields of the answer buffer.
 #[derive(Clone, Copy, Debug, PartialEq, Eq)]

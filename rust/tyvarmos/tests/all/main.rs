@@ -1,12 +1,15 @@
 //! Tests of the wrapper and of the command, beside the plain reading of the rules in compare/reading.
 
+mod boundary;
 mod breaches;
 mod command;
 mod damage;
+mod declarations;
 mod files;
 mod fuzz;
 mod listing;
 mod meta;
+mod probe;
 mod rng;
 mod small;
 mod usage;
