@@ -1,0 +1,145 @@
+/* Holds the C functions to what the header says of bytes, lengths, answers and threads. */
+#define _POSIX_C_SOURCE 200809L
+#include <pthread.h>
+#include <stdio.h>
+#include <stdlib.h>
+#include <string.h>
+
+#include "tyvarmos.h"
+
+enum { MOST = 1 << 20, THREADS = 4, TIMES = 500 };
+
+static unsigned char bytes[MOST];
+static size_t length;
+static uint64_t meta[TYVARMOS_META_FIELDS];
+static int failed;
+
+#define HOLDS(what)                                                    \
+    do {                                                               \
+        if (!(what)) {                                                 \
+            printf("%s:%d: does not hold: %s\n", __FILE__, __LINE__, #what); \
+            failed = 1;                                                \
+        }                                                              \
+    } while (0)
+
+/* The judge of the main tree in these bytes. */
+static uint64_t judge(const void *image, size_t held, void *answer, size_t room)
+{
+    return tyvarmos_judge(image, held, meta[TYVARMOS_META_PAGE_SIZE], meta[TYVARMOS_META_PAGE_COUNT],
+                          meta[TYVARMOS_META_ROOT_PAGE], meta[TYVARMOS_META_FREELIST_PAGE], answer, room);
+}
+
+/* A lookup in the main tree of these bytes. */
+static uint64_t lookup(const void *image, size_t held, const void *key, size_t key_length, void *answer, size_t room)
+{
+    return tyvarmos_lookup(image, held, meta[TYVARMOS_META_PAGE_SIZE], meta[TYVARMOS_META_PAGE_COUNT],
+                           meta[TYVARMOS_META_ROOT_PAGE], key, key_length, answer, room);
+}
+
+static void hold_the_fields(void)
+{
+    uint64_t judged[TYVARMOS_JUDGE_FIELDS], found[TYVARMOS_LOOKUP_FIELDS];
+    HOLDS(meta[TYVARMOS_META_META_PAGE] == 1 && meta[TYVARMOS_META_PAGE_SIZE] == 1024);
+    HOLDS(meta[TYVARMOS_META_ROOT_PAGE] == 65 && meta[TYVARMOS_META_NEXT_INT] == 4);
+    HOLDS(meta[TYVARMOS_META_PAGE_COUNT] == 146 && meta[TYVARMOS_META_FREELIST_PAGE] == 66);
+    HOLDS(meta[TYVARMOS_META_TX_ID] == 10);
+    HOLDS(judge(bytes, length, judged, sizeof judged) == TYVARMOS_DONE);
+    HOLDS(judged[TYVARMOS_JUDGE_ENTRIES] == 4 && judged[TYVARMOS_JUDGE_BLOCKS] == 2);
+    HOLDS(judged[TYVARMOS_JUDGE_PAGE] == 0 && judged[TYVARMOS_JUDGE_ELEMENT] == 0);
+    HOLDS(lookup(bytes, length, "world", 5, found, sizeof found) == TYVARMOS_DONE);
+    HOLDS(found[TYVARMOS_LOOKUP_FOUND] == 1 && found[TYVARMOS_LOOKUP_KIND] == 1);
+    HOLDS(found[TYVARMOS_LOOKUP_LENGTH] == 16);
+    HOLDS(memcmp(bytes + found[TYVARMOS_LOOKUP_PLACE] - 5, "world", 5) == 0);
+}
+
+static void hold_empty_runs(void)
+{
+    uint64_t found[TYVARMOS_LOOKUP_FIELDS];
+    HOLDS(lookup(NULL, 0, "world", 5, found, sizeof found) == TYVARMOS_GEOMETRY);
+    HOLDS(judge(NULL, 0, found, sizeof found) == TYVARMOS_GEOMETRY);
+    HOLDS(tyvarmos_meta(NULL, 0, 0, found, sizeof found) == TYVARMOS_GEOMETRY);
+    HOLDS(lookup(bytes, length, NULL, 0, found, sizeof found) == TYVARMOS_DONE && found[TYVARMOS_LOOKUP_FOUND] == 0);
+    HOLDS(lookup(bytes, length, "world", 5, NULL, 0) == TYVARMOS_GEOMETRY);
+}
+
+static void hold_the_answer_buffer(void)
+{
+    unsigned char room[64], before[64];
+    memset(room, 0xA5, sizeof room);
+    memcpy(before, room, sizeof room);
+    HOLDS(lookup(bytes, length, "world", 5, room, 8 * TYVARMOS_LOOKUP_FIELDS - 1) == TYVARMOS_GEOMETRY);
+    HOLDS(judge(bytes, length, room, 8 * TYVARMOS_JUDGE_FIELDS - 1) == TYVARMOS_GEOMETRY);
+    HOLDS(tyvarmos_meta(bytes, length, 0, room, 8 * TYVARMOS_META_FIELDS - 1) == TYVARMOS_GEOMETRY);
+    HOLDS(memcmp(room, before, sizeof room) == 0);
+    HOLDS(judge(bytes, length, room, sizeof room) == TYVARMOS_DONE);
+    HOLDS(memcmp(room, before, 8 * TYVARMOS_JUDGE_FIELDS) != 0);
+    HOLDS(memcmp(room + 32, before + 32, sizeof room - 32) == 0);
+}
+
+static void hold_any_alignment(void)
+{
+    static unsigned char moved[MOST + 8];
+    unsigned char room[64];
+    uint64_t entries;
+    int shift;
+    for (shift = 1; shift < 8; shift++) {
+        memcpy(moved + shift, bytes, length);
+        HOLDS(judge(moved + shift, length, room + shift, 32) == TYVARMOS_DONE);
+        memcpy(&entries, room + shift + 8 * TYVARMOS_JUDGE_ENTRIES, sizeof entries);
+        HOLDS(entries == 4);
+    }
+}
+
+static void hold_refusals(void)
+{
+    static unsigned char damaged[MOST];
+    uint64_t judged[TYVARMOS_JUDGE_FIELDS];
+    memcpy(damaged, bytes, length);
+    damaged[66 * 1024 + 16] = 1;
+    damaged[66 * 1024 + 32] = 65;
+    HOLDS(judge(damaged, length, judged, sizeof judged) == TYVARMOS_REACHED_TWICE);
+    HOLDS(judged[TYVARMOS_JUDGE_PAGE] == 66 && judged[TYVARMOS_JUDGE_ELEMENT] == 0 && damaged[66 * 1024 + 8] == 4);
+    HOLDS(judged[TYVARMOS_JUDGE_ENTRIES] == 0 && judged[TYVARMOS_JUDGE_BLOCKS] == 0);
+    memset(damaged, 0, 2048);
+    HOLDS(tyvarmos_meta(damaged, length, 0, judged, sizeof judged) == TYVARMOS_GEOMETRY);
+    HOLDS(tyvarmos_meta(damaged, length, 0, meta, sizeof meta) == TYVARMOS_HEADER);
+}
+
+static void *look_many_times(void *word)
+{
+    uint64_t found[TYVARMOS_LOOKUP_FIELDS], judged[TYVARMOS_JUDGE_FIELDS];
+    int *good = (int *)word, i;
+    for (i = 0; i < TIMES; i++)
+        *good += lookup(bytes, length, "world", 5, found, sizeof found) == TYVARMOS_DONE && found[0] == 1 &&
+                 judge(bytes, length, judged, sizeof judged) == TYVARMOS_DONE;
+    return NULL;
+}
+
+static void hold_threads(void)
+{
+    pthread_t threads[THREADS];
+    int good[THREADS] = {0}, i;
+    for (i = 0; i < THREADS; i++)
+        HOLDS(pthread_create(&threads[i], NULL, look_many_times, &good[i]) == 0);
+    for (i = 0; i < THREADS; i++) {
+        pthread_join(threads[i], NULL);
+        HOLDS(good[i] == TIMES);
+    }
+}
+
+int main(int count, char **words)
+{
+    FILE *file = count == 2 ? fopen(words[1], "rb") : NULL;
+    if (file == NULL)
+        return 66;
+    length = fread(bytes, 1, sizeof bytes, file);
+    fclose(file);
+    HOLDS(tyvarmos_meta(bytes, length, 0, meta, sizeof meta) == TYVARMOS_DONE);
+    hold_the_fields();
+    hold_empty_runs();
+    hold_the_answer_buffer();
+    hold_any_alignment();
+    hold_threads();
+    hold_refusals();
+    return failed;
+}
