@@ -1,8 +1,8 @@
 /*
  * Writes the value of a key in a bucket of a jammdb file, after judging the main tree and the bucket's.
  *
- *   cc -I include examples/lookup.c target/staticlib/libshard.a -o lookup
- *   ./lookup examples/shard.db world motto
+ *   cc -I include examples/lookup.c target/staticlib/libshard.a -o target/lookup
+ *   target/lookup examples/shard.db world motto
  *
  * Exit status: 0 found, 1 absent, 2 refused, 66 a file that cannot be read.
  */

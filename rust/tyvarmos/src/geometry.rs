@@ -1,5 +1,6 @@
 //! Which of its causes a refusal of sizes has.
 
+use std::error::Error;
 use std::fmt;
 
 const LEAST_SIZE: u64 = 1_024;
@@ -108,6 +109,8 @@ impl fmt::Display for Geometry {
         }
     }
 }
+
+impl Error for Geometry {}
 
 /// A number with a comma before each three digits.
 fn grouped(number: impl Into<u128>) -> String {

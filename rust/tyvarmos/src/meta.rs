@@ -54,8 +54,8 @@ impl Meta {
     ///
     /// # Errors
     ///
-    /// As [`Meta::of`], [`Number::Argument`] standing for another page size than this one, and [`Number::Geometry`] for
-    /// one that this version does not take as well.
+    /// As [`Meta::of`], but that [`Number::Argument`] is for a meta page of another page size than the one given. A page
+    /// size given that this version does not take is [`Number::Geometry`].
     pub fn with_page_size(bytes: &[u8], page_size: u64) -> Result<Meta, Fault> {
         match page_size {
             0 => Err(Geometry::PageSize { page_size }.into()),

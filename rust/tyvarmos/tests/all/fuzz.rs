@@ -3,6 +3,7 @@
 use std::collections::BTreeMap;
 
 use reading::judge::judge;
+use reading::layout::put_u64;
 use reading::lookup::{lookup, Found};
 use tyvarmos::{Fault, Image, Kind, Meta, Number};
 
@@ -10,6 +11,8 @@ use crate::damage::damage;
 use crate::listing::Listed;
 use crate::rng::Rng;
 use crate::{example, small};
+
+const COUNT_AT: usize = 16;
 
 /// How often each number was given.
 type Numbers = BTreeMap<u64, usize>;
@@ -47,7 +50,18 @@ fn check_judge(bytes: &[u8], sizes: Sizes, numbers: &mut Numbers) {
     let judged = image(bytes, sizes).judge().map(|sound| (sound.entries(), sound.pages()));
     let read = judge(bytes, p, n, root, freelist).map(|sound| (sound.entries, sound.blocks));
     assert_eq!(judged.map_err(plain), read, "{sizes:?}");
+    if let Err(Fault { number: Number::ReachedTwice, element, .. }) = judged {
+        assert_eq!(element.is_some(), passes_without_ids(bytes, sizes), "{sizes:?}");
+    }
     *numbers.entry(judged.map_or_else(|fault| fault.number.code(), |_| 0)).or_default() += 1;
+}
+
+/// Whether the judge passes the image with no free id listed, so that an id was all that it refused.
+fn passes_without_ids(bytes: &[u8], sizes: Sizes) -> bool {
+    let [p, _, _, freelist] = sizes;
+    let mut bytes = bytes.to_vec();
+    put_u64(&mut bytes, (freelist * p) as usize + COUNT_AT, 0);
+    image(&bytes, sizes).judge().is_ok()
 }
 
 /// Checks a lookup, and `get` where the image is sound, and adds the number.

@@ -188,4 +188,5 @@ const _: () = {
     shared::<Image<'_>>();
     shared::<Sound<'_>>();
     error::<Fault>();
+    error::<Geometry>();
 };
