@@ -90,3 +90,24 @@ impl fmt::Display for Fault {
 }
 
 impl Error for Fault {}
+
+#[cfg(test)]
+mod tests {
+    use super::*;
+
+    #[test]
+    fn a_number_that_is_not_known_keeps_what_it_names() {
+        let fault = Fault::answered(16, 7, 3);
+        assert_eq!((fault.number.code(), fault.page, fault.element), (16, Some(7), Some(3)));
+        assert_eq!(fault.to_string(), "page 7, element 3: this version does not know the number (16)");
+        assert_eq!(Fault::answered(17, 0, 0), Fault::new(Number::from(17)));
+    }
+
+    #[test]
+    fn a_page_or_element_0_is_told_from_none() {
+        assert_eq!(Fault::answered(2, 0, 0), Fault::at_page(Number::PageNumber, 0));
+        assert_eq!(Fault::answered(6, 4, 0), Fault::at_element(Number::Order, 4, 0));
+        assert_eq!(Fault::answered(8, 4, 0), Fault::at_page(Number::ReachedTwice, 4));
+        assert_eq!(Fault::answered(13, 0, 0), Fault::new(Number::Hash));
+    }
+}

@@ -50,6 +50,7 @@ fn check_judge(bytes: &[u8], sizes: Sizes, numbers: &mut Numbers) {
     let judged = image(bytes, sizes).judge().map(|sound| (sound.entries(), sound.pages()));
     let read = judge(bytes, p, n, root, freelist).map(|sound| (sound.entries, sound.blocks));
     assert_eq!(judged.map_err(plain), read, "{sizes:?}");
+    assert_eq!(image(bytes, sizes).geometry().is_err(), read.is_err_and(|fault| fault.number == 1), "{sizes:?}");
     if let Err(Fault { number: Number::ReachedTwice, element, .. }) = judged {
         assert_eq!(element.is_some(), passes_without_ids(bytes, sizes), "{sizes:?}");
     }
