@@ -1,8 +1,8 @@
 /*
  * tyvarmos.h: the C functions of libshard.a, which judge an image of a jammdb 0.11.0 file and look up keys in it.
  *
- * What each call answers is proved for every input: docs/PROMISES.md, "shard". Link with libshard.a, which needs no
- * other library: cc program.c libshard.a
+ * What each call answers is proved for every input: docs/PROMISES.md, "shard". Link with libshard.a, which needs
+ * memcpy and memset and nothing else: cc program.c libshard.a
  *
  * Every call returns a number, one of enum tyvarmos_number, and writes its answer to a buffer that the caller lends.
  * TYVARMOS_DONE means that the answer is there. Any other number is a refusal; it names the rule that was broken.
@@ -35,6 +35,10 @@
 
 #include <stddef.h>
 #include <stdint.h>
+
+#if UINTPTR_MAX != UINT64_MAX || (defined(__BYTE_ORDER__) && __BYTE_ORDER__ != __ORDER_LITTLE_ENDIAN__)
+#error "libshard.a is for 64-bit, little-endian machines"
+#endif
 
 #ifdef __cplusplus
 extern "C" {
