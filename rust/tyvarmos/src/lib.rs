@@ -56,7 +56,8 @@
 //! # Building
 //!
 //! The library is looked for in target/staticlib at the repository's top, where `tools/staticlib shard` writes it, or
-//! in the folder that the environment variable `TYVARMOS_LIB` names. It is for 64-bit, little-endian machines.
+//! in the folder that the environment variable `TYVARMOS_LIB` names by an absolute path. It is for 64-bit,
+//! little-endian machines.
 //!
 //! `rust-version` is what the std calls used here need, as clippy sees it. Only Rust 1.95 was run.
 
