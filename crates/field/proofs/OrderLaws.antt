@@ -14,7 +14,18 @@ use lib.Seq.{drop-cons}
 use borrow.Author.Tests.{lt-ltb, le-ltb, ltb-true, ltb-false}
 use Rattle.field.specs.declared.order.Order.{Order}
 use Rattle.field.specs.declared.order.Order.the-variants.{Lower, Equal, Higher}
-use Rattle.field.specs.Order.{orderOf}
+use Rattle.field.specs.Order.{orderOf, isLower, isEqual}
+
+-- ---- what the tests of an order tell
+pub is-lower : (o : Order) → isLower o ≡ true → o ≡ Lower
+is-lower Lower e = refl
+is-lower Equal e = cc
+is-lower Higher e = cc
+
+pub is-equal : (o : Order) → isEqual o ≡ true → o ≡ Equal
+is-equal Lower e = cc
+is-equal Equal e = refl
+is-equal Higher e = cc
 
 -- ---- a first byte decides, or the rest does
 pub head-lower : (x y : ℕ) (xs ys : List ℕ) → x < y → orderOf (x ∷ xs) (y ∷ ys) ≡ Lower

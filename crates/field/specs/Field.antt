@@ -1,5 +1,6 @@
--- Numbers in a list of bytes: the lowest byte first, and the highest byte first.
+-- Numbers in a list of bytes: the lowest byte first, and the highest byte first. A yes or no as a number.
 -- Assumes nothing.
+use mathlib.Core.Bool.{Bool, true, false}
 use mathlib.Core.List.{List, [], _∷_, _++_}
 use Prim.Native.Nat.{ℕ, zero, suc, _+_, _*_, _/_, _%_, _^_}
 use lib.ListN.{getD}
@@ -23,3 +24,8 @@ bigField (suc w) s at = 256 ^ w * getD s at 0 + bigField w s (at + 1)
 unfoldable pub bigBytesOf : ℕ → ℕ → List ℕ
 bigBytesOf zero v = []
 bigBytesOf (suc w) v = bigBytesOf w (v / 256) ++ (v % 256 ∷ [])
+
+-- a yes is 1, a no is 0
+abbrev pub flagOf : Bool → ℕ
+flagOf true = 1
+flagOf false = 0

@@ -1,4 +1,5 @@
 -- The order of two keys.
+-- Assumes nothing.
 use Prim.Native.Nat.{ℕ}
 use mathlib.Core.List.{List, [], _∷_}
 use mathlib.Core.Bool.{Bool, true, false}
@@ -16,3 +17,15 @@ orderOf [] [] = Equal
 orderOf [] (y ∷ ys) = Lower
 orderOf (x ∷ xs) [] = Higher
 orderOf (x ∷ xs) (y ∷ ys) = pickOrder (ltb x y) Lower (pickOrder (ltb y x) Higher (orderOf xs ys))
+
+-- the first of the two is lower
+abbrev pub isLower : Order → Bool
+isLower Lower = true
+isLower Equal = false
+isLower Higher = false
+
+-- the two are equal
+abbrev pub isEqual : Order → Bool
+isEqual Lower = false
+isEqual Equal = true
+isEqual Higher = false

@@ -1,15 +1,25 @@
-// Numbers in a slice of bytes: u32 and u64 with the lowest byte first, and u64 with the highest byte first.
+// Numbers in a slice of bytes: u32 and u64 with the lowest byte first, and u64 with the highest byte first. A byte and a yes or no as numbers.
 ghost use mathlib.Core.Path.{_≡_};
 ghost use Prim.Native.Nat.{_+_, _<_, _≤_};
 ghost use lib.ListN.{length, getD};
-ghost use Rattle.field.specs.Field.{field, bigField, bytesOf};
+ghost use Rattle.field.specs.Field.{field, bigField, bytesOf, flagOf};
 ghost use Rattle.field.specs.Run.{putAt};
 
 // The byte as a u64.
-fn wide(x: u8) -> u64
+pub fn wide(x: u8) -> u64
     ensures { λ r. ⌜ (r ≡ x) × (r < 256) ⌝ }
 {
     x as u64
+}
+
+// A yes as 1, a no as 0.
+pub fn flag(x: bool) -> u64
+    ensures { λ r. ⌜ r ≡ flagOf x ⌝ }
+{
+    if x {
+        return 1;
+    }
+    0
 }
 
 // The byte at a place, as a u64.

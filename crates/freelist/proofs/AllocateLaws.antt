@@ -7,8 +7,9 @@ use native.Mathlib.Omega.{arith}
 use borrow.Author.Tests.{le-leb, lt-leb, lt-ltb, le-ltb}
 use Rattle.freelist.specs.declared.table.State.the-variants.{InUse}
 use Rattle.freelist.specs.declared.Allocated.the-variants.{At, Refused}
-use Rattle.freelist.specs.Pages.{row, each}
-use Rattle.freelist.specs.Freelist.{requestFault, pagesNeeded, lowest, countAfter, allocateNumber, allocateAnswer, allocateTable}
+use Rattle.freelist.specs.Pages.{pagesFrom, each}
+use Rattle.field.specs.Sizes.{pagesNeeded}
+use Rattle.freelist.specs.Freelist.{requestFault, lowest, countAfter, allocateNumber, allocateAnswer, allocateTable}
 use Rattle.freelist.proofs.AnswerLaws.{first-number, refused-allocated}
 use Rattle.freelist.proofs.NumberLaws.{requested}
 use Rattle.freelist.proofs.RunLaws.{lowest-top}
@@ -45,10 +46,10 @@ module _ (t : List ℕ) (n size bytes pages start : ℕ) (passed : requestFault 
   unfolding allocateAnswer allocateNumber
   full-answer l h = rw (passed, ← needed, after-growth t n pages (omega arith), lt-leb (n + pages) 32768 h)
 
-  pub run-table : {out : List ℕ} → out ≡ each (λ s. InUse) (row start pages) t → out ≡ allocateTable t n size bytes
+  pub run-table : {out : List ℕ} → out ≡ each (λ s. InUse) (pagesFrom start pages) t → out ≡ allocateTable t n size bytes
   unfolding allocateTable
   run-table e = rw (← needed, ← low) e
 
-  pub growth-table : n ≤ start → {out : List ℕ} → out ≡ each (λ s. InUse) (row n pages) t → out ≡ allocateTable t n size bytes
+  pub growth-table : n ≤ start → {out : List ℕ} → out ≡ each (λ s. InUse) (pagesFrom n pages) t → out ≡ allocateTable t n size bytes
   unfolding allocateTable
   growth-table l e = rw (← needed, at-top l) e

@@ -9,11 +9,11 @@ use Rattle.freelist.specs.declared.Answer.the-variants as answer
 use Rattle.freelist.specs.declared.Allocated.the-variants as allocated
 use Rattle.freelist.specs.declared.Listed.the-variants as listed
 use Rattle.freelist.specs.declared.Measured.the-variants as measured
-use Rattle.freelist.specs.Answers.{_orElse_, _andThen_, onDone, answerOf, numberOf, allocatedOf, allocatedNumber, listedOf, listedNumber, measuredOf, measuredNumber}
+use Rattle.freelist.specs.Answers.{_orElse_, _andThen_, onDone, answerOf, answerNumber, allocatedOf, allocatedNumber, listedOf, listedNumber, measuredOf}
 
 -- ---- the number of an answer is the one that it was made for
 
-pub number-of-answer : (c : ℕ) → numberOf (answerOf c) ≡ c
+pub number-of-answer : (c : ℕ) → answerNumber (answerOf c) ≡ c
 number-of-answer zero = refl
 number-of-answer (suc c) = refl
 
@@ -24,10 +24,6 @@ number-of-allocated (suc c) s m = refl
 pub number-of-listed : (c k : ℕ) → listedNumber (listedOf c k) ≡ c
 number-of-listed zero k = refl
 number-of-listed (suc c) k = refl
-
-pub number-of-measured : (c k : ℕ) → measuredNumber (measuredOf c k) ≡ c
-number-of-measured zero k = refl
-number-of-measured (suc c) k = refl
 
 -- ---- a number of 0
 

@@ -14,7 +14,7 @@ use Rattle.freelist.specs.declared.table.State.the-variants.{InUse, Free
 use Rattle.freelist.specs.Table.{stateOf, isState, isInUse}
 use Rattle.freelist.specs.Pages.{_∈_, all, rising}
 use Rattle.freelist.specs.Answers.{_orElse_, _andThen_}
-use Rattle.freelist.specs.Freelist.{faultOf, initial, initNumber, inside, freeNumber, requestFault}
+use Rattle.freelist.specs.Freelist.{faultOf, initial, initNumber, blockAllowed, freeNumber, requestFault}
 use Rattle.freelist.proofs.PageLaws.{clash, all-of, all-row-of, all-row-at}
 use Rattle.freelist.proofs.AnswerLaws.{held, both-zero}
 use Rattle.freelist.proofs.FaultLaws.{passes, no-fault}
@@ -47,7 +47,7 @@ init-iff t n ids = (
 pub free-iff : (t : List ℕ) (n p count : ℕ)
     → (freeNumber t n p count ≡ 0)
     ↔ ((faultOf t n ≡ 0) × (1 ≤ count) × (2 ≤ p) × (p + count ≤ n) × ((q : ℕ) → p ≤ q → q < p + count → stateOf t q ≡ InUse))
-unfolding freeNumber inside
+unfolding freeNumber blockAllowed
 free-iff t n p count = (there, back)
   where
     there : freeNumber t n p count ≡ 0

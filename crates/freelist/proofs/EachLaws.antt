@@ -10,17 +10,17 @@ use lib.Dec.{leb}
 use lib.ListN.{length, getD}
 use Rattle.freelist.specs.declared.table.State.{State}
 use Rattle.freelist.specs.Table.{stateOf, put}
-use Rattle.freelist.specs.Pages.{_∈_, row, rising, each}
+use Rattle.freelist.specs.Pages.{_∈_, pagesFrom, rising, each}
 use Rattle.freelist.proofs.PageLaws.{and-parts, row-next, row-none, rising-low}
 use Rattle.freelist.proofs.States.{state-put, state-put-other, word-put, length-put}
 
 -- ---- a loop over a row: a turn, and the end
 module _ (g : State → State) (p n : ℕ) (t : List ℕ) where
-  pub each-next : p < n → each g (row p (n - p)) t ≡ each g (row (p + 1) (n - (p + 1))) (put t p (g (stateOf t p)))
+  pub each-next : p < n → each g (pagesFrom p (n - p)) t ≡ each g (pagesFrom (p + 1) (n - (p + 1))) (put t p (g (stateOf t p)))
   unfolding each
   each-next l = rw (row-next p n l)
 
-  pub each-none : n ≤ p → each g (row p (n - p)) t ≡ t
+  pub each-none : n ≤ p → each g (pagesFrom p (n - p)) t ≡ t
   unfolding each
   each-none l = rw (row-none p n l)
 

@@ -1,6 +1,6 @@
 -- What `allocate` hands out: pages that were free, the lowest run of them, or pages from n on where there is none; what it does to the
 -- state of every page; and that it is refused with 12 exactly when there is neither a run nor room. Assumes nothing.
-use Rattle.field.specs.Sizes.{sizeAllowed, countAllowed}
+use Rattle.field.specs.Sizes.{sizeAllowed, countAllowed, pagesNeeded}
 use mathlib.Core.Path.{_≡_, refl, sym, ap, _∙_}
 use mathlib.Core.Logic.{_↔_, _⊎_, ⊎-elim}
 use mathlib.Core.List.{List}
@@ -14,9 +14,9 @@ use Rattle.field.proofs.BitLaws.{lt-or-le}
 use Rattle.freelist.specs.declared.table.State.the-variants.{InUse, Free}
 use Rattle.freelist.specs.declared.Allocated.the-variants.{At, Refused}
 use Rattle.freelist.specs.Table.{stateOf, isState}
-use Rattle.freelist.specs.Pages.{_∈_, row, pagesOf, all, each}
+use Rattle.freelist.specs.Pages.{_∈_, pagesFrom, pagesOf, all, each}
 use Rattle.freelist.specs.Answers.{_orElse_, _andThen_}
-use Rattle.freelist.specs.Freelist.{hasRoom, faultOf, requestFault, pagesNeeded, FreeRun, lowest, countAfter, allocateNumber, allocateAnswer, allocateTable}
+use Rattle.freelist.specs.Freelist.{hasRoom, faultOf, requestFault, FreeRun, lowest, countAfter, allocateNumber, allocateAnswer, allocateTable}
 use Rattle.freelist.proofs.PageLaws.{in-row, row-in, rising-row}
 use Rattle.freelist.proofs.EachLaws.{each-in, each-out}
 use Rattle.freelist.proofs.AnswerLaws.{held, both-zero}
@@ -91,25 +91,25 @@ module _ (t : List ℕ) (n size bytes s m : ℕ) (answered : allocateAnswer t n 
 
   -- ---- every page afterwards
 
-  small : (q : ℕ) → q ∈ row s (pagesNeeded bytes size) → q < 32768
+  small : (q : ℕ) → q ∈ pagesFrom s (pagesNeeded bytes size) → q < 32768
   small q i = let h = handed-inside in omega (arith, row-in s (pagesNeeded bytes size) q i .1, h .1, h .2)
 
-  table-is : allocateTable t n size bytes ≡ each (λ s. InUse) (row s (pagesNeeded bytes size)) t
+  table-is : allocateTable t n size bytes ≡ each (λ s. InUse) (pagesFrom s (pagesNeeded bytes size)) t
   unfolding allocateTable
-  table-is = ap (λ (x : ℕ). each (λ s. InUse) (row x (pagesNeeded bytes size)) t) (sym (handed t n size bytes s m answered .start))
+  table-is = ap (λ (x : ℕ). each (λ s. InUse) (pagesFrom x (pagesNeeded bytes size)) t) (sym (handed t n size bytes s m answered .start))
 
   -- a page that was handed out is in use
   pub allocate-in : (q : ℕ) → s ≤ q → q < s + pagesNeeded bytes size → stateOf (allocateTable t n size bytes) q ≡ InUse
   allocate-in q a b =
       ap (λ (u : List ℕ). stateOf u q) table-is
-      ∙ each-in (λ s. InUse) s (row s (pagesNeeded bytes size)) t (handed t n size bytes s m answered .request .table .long) small
+      ∙ each-in (λ s. InUse) s (pagesFrom s (pagesNeeded bytes size)) t (handed t n size bytes s m answered .request .table .long) small
       (rising-row s s (pagesNeeded bytes size) (omega arith)) q (in-row s (pagesNeeded bytes size) q a b)
 
   -- and every other page is as it was
   pub allocate-out : (q : ℕ) → q < 32768 → (s ≤ q → q < s + pagesNeeded bytes size → ⊥) → stateOf (allocateTable t n size bytes) q ≡ stateOf t q
   allocate-out q l o =
       ap (λ (u : List ℕ). stateOf u q) table-is
-      ∙ each-out (λ s. InUse) (row s (pagesNeeded bytes size)) t (handed t n size bytes s m answered .request .table .long) small q l
+      ∙ each-out (λ s. InUse) (pagesFrom s (pagesNeeded bytes size)) t (handed t n size bytes s m answered .request .table .long) small q l
       (λ i. let r = row-in s (pagesNeeded bytes size) q i in o (r .0) (r .1))
 
   pub allocate-stays : faultOf (allocateTable t n size bytes) m ≡ 0
@@ -119,10 +119,10 @@ module _ (t : List ℕ) (n size bytes s m : ℕ) (answered : allocateAnswer t n 
       let b = h .1 in
       let p = handed-some in
       ap (λ (u : List ℕ). faultOf u m) table-is
-      ∙ each-stays (λ s. InUse) s (row s (pagesNeeded bytes size)) t n m (handed t n size bytes s m answered .request .table) small
+      ∙ each-stays (λ s. InUse) s (pagesFrom s (pagesNeeded bytes size)) t n m (handed t n size bytes s m answered .request .table) small
       (rising-row s s (pagesNeeded bytes size) (omega arith)) (omega arith) (h .2) (λ q i a b. refl) old
     where
-      old : (q : ℕ) → (q ∈ row s (pagesNeeded bytes size) → ⊥) → q < m → q < n
+      old : (q : ℕ) → (q ∈ pagesFrom s (pagesNeeded bytes size) → ⊥) → q < m → q < n
       old q o l = ⊎-elim (λ f. omega (arith, handed-free f .1)) (λ f. beyond (handed-beyond f)) (lt-or-le s n)
         where
           beyond : (s ≡ n) × (m ≡ n + pagesNeeded bytes size) → q < n
@@ -131,7 +131,7 @@ module _ (t : List ℕ) (n size bytes s m : ℕ) (answered : allocateAnswer t n 
   pub allocate-rest : (i : ℕ) → 33792 ≤ i → getD (allocateTable t n size bytes) i 0 ≡ getD t i 0
   allocate-rest i l =
       ap (λ (u : List ℕ). getD u i 0) table-is
-      ∙ each-rest (λ s. InUse) (row s (pagesNeeded bytes size)) t (handed t n size bytes s m answered .request .table .long) small i l
+      ∙ each-rest (λ s. InUse) (pagesFrom s (pagesNeeded bytes size)) t (handed t n size bytes s m answered .request .table .long) small i l
 
 -- ---- with no page free there is no run
 pub none-free : (t : List ℕ) (n pages : ℕ) → 2 ≤ n → 1 ≤ pages → ((q : ℕ) → 2 ≤ q → q < n → stateOf t q ≡ Free → ⊥) → lowest t n pages ≡ n

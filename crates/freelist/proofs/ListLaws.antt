@@ -14,7 +14,7 @@ use Rattle.field.specs.Run.{putAt}
 use Rattle.field.proofs.RunLaws.{put-cons, put-nil}
 use Rattle.freelist.specs.declared.table.State.the-variants.{Free}
 use Rattle.freelist.specs.Table.{stateOf, isInUse, isListed, put}
-use Rattle.freelist.specs.Pages.{row, all, keep, rising, each}
+use Rattle.freelist.specs.Pages.{pagesFrom, all, keep, rising, each}
 use Rattle.freelist.specs.Freelist.{initial, listing}
 use Rattle.freelist.proofs.PageLaws.{keep-next, keep-skip, keep-none, length-keep, length-row}
 
@@ -69,7 +69,7 @@ free-end ids t i l = rw (drop-of-length-le ids l)
 module _ (t : List ℕ) (n : ℕ) where
   -- the free and pending ones of the pages from i on and below n
   abbrev pub listedFrom : ℕ → List ℕ
-  listedFrom i = keep (λ k. isListed (stateOf t k)) (row i (n - i))
+  listedFrom i = keep (λ k. isListed (stateOf t k)) (pagesFrom i (n - i))
 
   pub listing-start : listing t n ≡ listedFrom 2
   unfolding listing
@@ -77,7 +77,7 @@ module _ (t : List ℕ) (n : ℕ) where
 
   pub listing-few : length (listing t n) ≤ n - 2
   unfolding listing
-  listing-few = omega (arith, length-keep (λ k. isListed (stateOf t k)) (row 2 (n - 2)), length-row 2 (n - 2))
+  listing-few = omega (arith, length-keep (λ k. isListed (stateOf t k)) (pagesFrom 2 (n - 2)), length-row 2 (n - 2))
 
   -- what a turn of the loops over the pages keeps: of the count, and of what is written
   module _ (i : ℕ) (l : i < n) where

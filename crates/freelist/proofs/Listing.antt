@@ -12,7 +12,7 @@ use Rattle.freelist.specs.declared.Measured.the-variants.{Bytes}
 use Rattle.freelist.specs.Table.{stateOf, isListed}
 use Rattle.freelist.specs.Pages.{_∈_, pagesOf, rising}
 use Rattle.freelist.specs.Answers.{listedOf, measuredOf}
-use Rattle.freelist.specs.Freelist.{faultOf, listing, pagesNumber, sizeOf}
+use Rattle.freelist.specs.Freelist.{faultOf, listing, pagesNumber, listingSize}
 use Rattle.freelist.proofs.PageLaws.{in-row, row-in, rising-row, rising-at, rising-keep, keep-iff}
 use Rattle.freelist.proofs.AnswerLaws.{both-zero}
 use Rattle.freelist.proofs.ListLaws.{listing-few}
@@ -39,17 +39,17 @@ module _ (t : List ℕ) (n : ℕ) where
   listing-rising = rising-at 2 (listing t n) (rising-keep (λ k. isListed (stateOf t k)) 2 (pagesOf n) (rising-row 2 2 (n - 2) (omega arith)))
 
   -- as many ids as pages listed, so the size is at most that of all pages from 2 to n - 1
-  pub size-most : sizeOf t n ≤ 40 + 8 * (n - 2)
-  unfolding sizeOf
+  pub size-most : listingSize t n ≤ 40 + 8 * (n - 2)
+  unfolding listingSize
   size-most = omega (arith, listing-few t n)
 
   -- where `pages` writes k ids, `size` answers 40 plus 8 for each
   pub size-of-listing : (ids : List ℕ) (k : ℕ) → listedOf (pagesNumber t n ids) (length (listing t n)) ≡ listed.Count k
-      → measuredOf (faultOf t n) (sizeOf t n) ≡ Bytes (40 + 8 * k)
-  unfolding pagesNumber sizeOf
+      → measuredOf (faultOf t n) (listingSize t n) ≡ Bytes (40 + 8 * k)
+  unfolding pagesNumber listingSize
   size-of-listing ids k e = go (pagesNumber t n ids) refl
     where
-      go : (c : ℕ) → pagesNumber t n ids ≡ c → measuredOf (faultOf t n) (sizeOf t n) ≡ Bytes (40 + 8 * k)
+      go : (c : ℕ) → pagesNumber t n ids ≡ c → measuredOf (faultOf t n) (listingSize t n) ≡ Bytes (40 + 8 * k)
       go (suc c) f = absurd (let h : listed.Refused (suc c) ≡ listed.Count k = rw f at e in let o : _≡_ {A = ℕ} 0 1 = cc in omega arith)
       go zero f =
           let h : listed.Count (length (listing t n)) ≡ listed.Count k = rw f at e in

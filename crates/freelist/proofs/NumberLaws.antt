@@ -10,10 +10,10 @@ use borrow.Author.Tests.{le-leb, lt-leb, leb-true, leb-false, ltb-true}
 use lib.Dec.{eqb, leb, ltb}
 use lib.ListN.{length}
 use Rattle.freelist.specs.Table.{stateOf, isInUse}
-use Rattle.freelist.specs.Pages.{_∈_, row, all, rising}
+use Rattle.freelist.specs.Pages.{_∈_, pagesFrom, all, rising}
 use Rattle.freelist.specs.declared.Listed.the-variants.{Count}
 use Rattle.freelist.specs.Answers.{_orElse_, _andThen_, listedOf}
-use Rattle.freelist.specs.Freelist.{hasRoom, faultOf, newNumber, initial, initNumber, inside, freeNumber, requestFault, listing, pagesNumber}
+use Rattle.freelist.specs.Freelist.{hasRoom, faultOf, newNumber, initial, initNumber, blockAllowed, freeNumber, requestFault, listing, pagesNumber}
 use Rattle.freelist.proofs.PageLaws.{and-parts, all-at}
 use Rattle.freelist.proofs.AnswerLaws.{held, both-zero, first-number, next-number}
 use Rattle.freelist.proofs.FaultLaws.{Passes, passes}
@@ -57,28 +57,28 @@ module _ (t : List ℕ) (n : ℕ) (ids : List ℕ) where
 
 -- ---- free
 module _ (n p count : ℕ) where
-  pub none-asked : count < 1 → false ≡ inside n p count
-  unfolding inside
+  pub none-asked : count < 1 → false ≡ blockAllowed n p count
+  unfolding blockAllowed
   none-asked h = rw (lt-leb 1 count h)
 
-  pub too-low : 1 ≤ count → p < 2 → false ≡ inside n p count
-  unfolding inside
+  pub too-low : 1 ≤ count → p < 2 → false ≡ blockAllowed n p count
+  unfolding blockAllowed
   too-low l h = rw (le-leb 1 count l, lt-leb 2 p h)
 
-  pub too-high : 1 ≤ count → 2 ≤ p → n < p → false ≡ inside n p count
-  unfolding inside
+  pub too-high : 1 ≤ count → 2 ≤ p → n < p → false ≡ blockAllowed n p count
+  unfolding blockAllowed
   too-high l m h = rw (le-leb 1 count l, le-leb 2 p m, lt-leb (p + count) n (omega arith))
 
   leb-sub : p ≤ n → (b : Bool) → leb count (n - p) ≡ b → leb count (n - p) ≡ leb (p + count) n
   leb-sub h true e = e ∙ sym (le-leb (p + count) n (let l = leb-true count (n - p) e in omega arith))
   leb-sub h false e = e ∙ sym (lt-leb (p + count) n (let l = leb-false count (n - p) e in omega arith))
 
-  pub rest-asked : 1 ≤ count → 2 ≤ p → p ≤ n → leb count (n - p) ≡ inside n p count
-  unfolding inside
+  pub rest-asked : 1 ≤ count → 2 ≤ p → p ≤ n → leb count (n - p) ≡ blockAllowed n p count
+  unfolding blockAllowed
   rest-asked l m h = rw (le-leb 1 count l, le-leb 2 p m) (leb-sub h (leb count (n - p)) refl)
 
-  pub inside-is : inside n p count ≡ true → (1 ≤ count) × (2 ≤ p) × (p + count ≤ n)
-  unfolding inside
+  pub inside-is : blockAllowed n p count ≡ true → (1 ≤ count) × (2 ≤ p) × (p + count ≤ n)
+  unfolding blockAllowed
   inside-is e =
       let x = and-parts (leb 1 count) (leb 2 p && leb (p + count) n) e in
       let y = and-parts (leb 2 p) (leb (p + count) n) (x .1) in
@@ -90,14 +90,14 @@ pub record Freeable (t : List ℕ) (n p count : ℕ) : Type 0 where
   pub some : 1 ≤ count
   pub from : 2 ≤ p
   pub to : p + count ≤ n
-  pub used : all (λ k. isInUse (stateOf t k)) (row p count) ≡ true
+  pub used : all (λ k. isInUse (stateOf t k)) (pagesFrom p count) ≡ true
 
 module _ (t : List ℕ) (n p count : ℕ) where
   pub free-fault : (b : ℕ) → b ≡ faultOf t n → (b ≡ 0 → ⊥) → b ≡ freeNumber t n p count
   unfolding freeNumber
   free-fault b e z = first-number b (faultOf t n) e _ z
 
-  pub free-by : (b : ℕ) → b ≡ faultOf t n → b ≡ 0 → (x y : Bool) → inside n p count ≡ x → all (λ k. isInUse (stateOf t k)) (row p count) ≡ y
+  pub free-by : (b : ℕ) → b ≡ faultOf t n → b ≡ 0 → (x y : Bool) → blockAllowed n p count ≡ x → all (λ k. isInUse (stateOf t k)) (pagesFrom p count) ≡ y
       → (x && y orElse 11) ≡ freeNumber t n p count
   unfolding freeNumber
   free-by b e z x y h k = rw (← h, ← k) (next-number b (faultOf t n) e _ z)
@@ -105,9 +105,9 @@ module _ (t : List ℕ) (n p count : ℕ) where
   pub freeable : freeNumber t n p count ≡ 0 → Freeable t n p count
   unfolding freeNumber
   freeable e =
-      let used = all (λ k. isInUse (stateOf t k)) (row p count) in
-      let z = both-zero (faultOf t n) (inside n p count && used orElse 11) e in
-      let h = and-parts (inside n p count) used (held (inside n p count && used) 10 (z .1)) in
+      let used = all (λ k. isInUse (stateOf t k)) (pagesFrom p count) in
+      let z = both-zero (faultOf t n) (blockAllowed n p count && used orElse 11) e in
+      let h = and-parts (blockAllowed n p count) used (held (blockAllowed n p count && used) 10 (z .1)) in
       let i = inside-is n p count (h .0) in
       record { table = passes t n (z .0); some = i .0; from = i .1; to = i .2; used = h .1 }
 

@@ -10,7 +10,7 @@ use native.Mathlib.Omega.{arith}
 use borrow.Author.Tests.{le-leb, leb-true}
 use lib.Dec.{leb}
 use lib.ListN.{length, getD}
-use Rattle.freelist.specs.Pages.{_∈_, row, all, keep, rising}
+use Rattle.freelist.specs.Pages.{_∈_, pagesFrom, all, keep, rising}
 
 -- ---- tests
 
@@ -38,16 +38,16 @@ at-in (p ∷ ps) (suc j) l = List·Memᴰ·tail (at-in ps j (omega arith))
 -- ---- a row of pages
 
 -- from p on and below n: a turn, and the end
-pub row-next : (p n : ℕ) → p < n → row p (n - p) ≡ p ∷ row (p + 1) (n - (p + 1))
-unfolding row
+pub row-next : (p n : ℕ) → p < n → pagesFrom p (n - p) ≡ p ∷ pagesFrom (p + 1) (n - (p + 1))
+unfolding pagesFrom
 row-next p n l = let e : n - p ≡ suc (n - (p + 1)) = omega arith in rw e
 
-pub row-none : (p n : ℕ) → n ≤ p → row p (n - p) ≡ []
-unfolding row
+pub row-none : (p n : ℕ) → n ≤ p → pagesFrom p (n - p) ≡ []
+unfolding pagesFrom
 row-none p n l = let e : n - p ≡ 0 = omega arith in rw e
 
-pub row-split : (p k m : ℕ) → row p (k + m) ≡ row p k ++ row (p + k) m
-unfolding row
+pub row-split : (p k m : ℕ) → pagesFrom p (k + m) ≡ pagesFrom p k ++ pagesFrom (p + k) m
+unfolding pagesFrom
 row-split p zero m =
     let e : p ≡ p + 0 = omega arith in
     let f : 0 + m ≡ m = omega arith in
@@ -57,18 +57,18 @@ row-split p (suc k) m =
     let f : suc k + m ≡ suc (k + m) = omega arith in
     rw (f, ← e) (ap (λ (ps : List ℕ). p ∷ ps) (row-split (p + 1) k m))
 
-pub length-row : (p k : ℕ) → length (row p k) ≡ k
-unfolding row
+pub length-row : (p k : ℕ) → length (pagesFrom p k) ≡ k
+unfolding pagesFrom
 length-row p zero = refl
 length-row p (suc k) = ap suc (length-row (p + 1) k)
 
-pub in-row : (p k q : ℕ) → p ≤ q → q < p + k → q ∈ row p k
-unfolding row
+pub in-row : (p k q : ℕ) → p ≤ q → q < p + k → q ∈ pagesFrom p k
+unfolding pagesFrom
 in-row p zero q a b = absurd (omega arith)
 in-row p (suc k) q a b = ⊎-elim (λ e. List·Memᴰ·head (sym e)) (λ l. List·Memᴰ·tail (in-row (p + 1) k q (omega arith) (omega arith))) (eq-or-lt-of-le a)
 
-pub row-in : (p k q : ℕ) → q ∈ row p k → (p ≤ q) × (q < p + k)
-unfolding row
+pub row-in : (p k q : ℕ) → q ∈ pagesFrom p k → (p ≤ q) × (q < p + k)
+unfolding pagesFrom
 row-in p zero q m = absurd (List·Memᴰ·not-nil m)
 row-in p (suc k) q m = ⊎-elim (λ e. (omega arith, omega arith)) (λ m. let h = row-in (p + 1) k q m in let a = h .0 in let b = h .1 in (omega arith, omega arith)) (List·Memᴰ·cases-cons m)
 
@@ -81,23 +81,23 @@ all-append ok (p ∷ ps) qs = ap (λ (b : Bool). ok p && b) (all-append ok ps qs
 
 -- the pages from p on and below n: a turn, a turn that stops, and the end
 module _ (ok : ℕ → Bool) (p n : ℕ) where
-  pub all-next : p < n → ok p ≡ true → all ok (row p (n - p)) ≡ all ok (row (p + 1) (n - (p + 1)))
+  pub all-next : p < n → ok p ≡ true → all ok (pagesFrom p (n - p)) ≡ all ok (pagesFrom (p + 1) (n - (p + 1)))
   unfolding all
   all-next l h = rw (row-next p n l, h)
 
-  pub all-stop : p < n → ok p ≡ false → all ok (row p (n - p)) ≡ false
+  pub all-stop : p < n → ok p ≡ false → all ok (pagesFrom p (n - p)) ≡ false
   unfolding all
   all-stop l h = rw (row-next p n l, h)
 
-  pub all-none : n ≤ p → all ok (row p (n - p)) ≡ true
+  pub all-none : n ≤ p → all ok (pagesFrom p (n - p)) ≡ true
   unfolding all
   all-none l = rw (row-none p n l)
 
 -- the same, of which the first k are asked at once
-pub all-part : (ok : ℕ → Bool) (p k n : ℕ) → p + k ≤ n → all ok (row p (n - p)) ≡ (all ok (row p k) && all ok (row (p + k) (n - (p + k))))
+pub all-part : (ok : ℕ → Bool) (p k n : ℕ) → p + k ≤ n → all ok (pagesFrom p (n - p)) ≡ (all ok (pagesFrom p k) && all ok (pagesFrom (p + k) (n - (p + k))))
 all-part ok p k n l =
     let e : n - p ≡ k + (n - (p + k)) = omega arith in
-    rw e (ap (all ok) (row-split p k (n - (p + k))) ∙ all-append ok (row p k) (row (p + k) (n - (p + k))))
+    rw e (ap (all ok) (row-split p k (n - (p + k))) ∙ all-append ok (pagesFrom p k) (pagesFrom (p + k) (n - (p + k))))
 
 -- it holds where `ok` holds of each, and only there
 pub all-of : (ok : ℕ → Bool) (ps : List ℕ) → ((q : ℕ) → q ∈ ps → ok q ≡ true) → all ok ps ≡ true
@@ -119,11 +119,11 @@ all-not ok ps q m h = go (all ok ps) refl
 
 -- the same, of a row
 module _ (ok : ℕ → Bool) (p k : ℕ) where
-  pub all-row-of : ((q : ℕ) → p ≤ q → q < p + k → ok q ≡ true) → all ok (row p k) ≡ true
-  all-row-of h = all-of ok (row p k) (λ q m. let b = row-in p k q m in h q (b .0) (b .1))
+  pub all-row-of : ((q : ℕ) → p ≤ q → q < p + k → ok q ≡ true) → all ok (pagesFrom p k) ≡ true
+  all-row-of h = all-of ok (pagesFrom p k) (λ q m. let b = row-in p k q m in h q (b .0) (b .1))
 
-  pub all-row-at : all ok (row p k) ≡ true → (q : ℕ) → p ≤ q → q < p + k → ok q ≡ true
-  all-row-at e q a b = all-at ok (row p k) e q (in-row p k q a b)
+  pub all-row-at : all ok (pagesFrom p k) ≡ true → (q : ℕ) → p ≤ q → q < p + k → ok q ≡ true
+  all-row-at e q a b = all-at ok (pagesFrom p k) e q (in-row p k q a b)
 
 -- ---- rising
 
@@ -143,8 +143,8 @@ rising-from a b (p ∷ ps) l e =
     let m = leb-true b p (h .0) in
     rw (le-leb a p (omega arith)) (h .1)
 
-pub rising-row : (low p k : ℕ) → low ≤ p → rising low (row p k) ≡ true
-unfolding rising row
+pub rising-row : (low p k : ℕ) → low ≤ p → rising low (pagesFrom p k) ≡ true
+unfolding rising pagesFrom
 rising-row low p zero l = refl
 rising-row low p (suc k) l = rw (le-leb low p l) (rising-row (p + 1) (p + 1) k (omega arith))
 
@@ -163,15 +163,15 @@ rising-at low (p ∷ ps) e (suc i) (suc j) l b = rising-at (p + 1) ps (and-parts
 
 -- the pages from p on and below n: a turn that keeps p, one that leaves it out, and the end
 module _ (ok : ℕ → Bool) (p n : ℕ) where
-  pub keep-next : p < n → ok p ≡ true → keep ok (row p (n - p)) ≡ p ∷ keep ok (row (p + 1) (n - (p + 1)))
+  pub keep-next : p < n → ok p ≡ true → keep ok (pagesFrom p (n - p)) ≡ p ∷ keep ok (pagesFrom (p + 1) (n - (p + 1)))
   unfolding keep
   keep-next l h = rw (row-next p n l, h)
 
-  pub keep-skip : p < n → ok p ≡ false → keep ok (row p (n - p)) ≡ keep ok (row (p + 1) (n - (p + 1)))
+  pub keep-skip : p < n → ok p ≡ false → keep ok (pagesFrom p (n - p)) ≡ keep ok (pagesFrom (p + 1) (n - (p + 1)))
   unfolding keep
   keep-skip l h = rw (row-next p n l, h)
 
-  pub keep-none : n ≤ p → keep ok (row p (n - p)) ≡ []
+  pub keep-none : n ≤ p → keep ok (pagesFrom p (n - p)) ≡ []
   unfolding keep
   keep-none l = rw (row-none p n l)
 

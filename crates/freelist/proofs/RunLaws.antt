@@ -11,39 +11,40 @@ use borrow.Author.Tests.{le-leb, lt-leb, leb-true}
 use lib.Arith.{digits-div, lt-of-le-ne}
 use lib.Dec.{leb}
 use lib.ListN.{getD}
+use Rattle.field.specs.Sizes.{pagesNeeded}
 use Rattle.field.proofs.BitLaws.{lt-or-le}
 use Rattle.freelist.specs.declared.table.State.{State}
 use Rattle.freelist.specs.declared.table.State.the-variants.{InUse, Free, Pending, Broken}
 use Rattle.freelist.specs.Table.{bit, stateFrom, stateOf, isState, isFree}
-use Rattle.freelist.specs.Pages.{row, all, first}
-use Rattle.freelist.specs.Freelist.{run, FreeRun, lowest, pagesNeeded}
+use Rattle.freelist.specs.Pages.{pagesFrom, all, first}
+use Rattle.freelist.specs.Freelist.{run, FreeRun, lowest}
 use Rattle.freelist.proofs.PageLaws.{clash, and-parts, row-next, row-none, in-row, all-row-of, all-row-at, all-not}
 
 -- ---- first, from p on and below n
 module _ (ok : ℕ → Bool) (none n : ℕ) where
-  pub first-here : (p : ℕ) → p < n → ok p ≡ true → first ok none (row p (n - p)) ≡ p
+  pub first-here : (p : ℕ) → p < n → ok p ≡ true → first ok none (pagesFrom p (n - p)) ≡ p
   unfolding first
   first-here p l h =
       rw (row-next p n l, h)
 
-  pub first-next : (p : ℕ) → p < n → ok p ≡ false → first ok none (row p (n - p)) ≡ first ok none (row (p + 1) (n - (p + 1)))
+  pub first-next : (p : ℕ) → p < n → ok p ≡ false → first ok none (pagesFrom p (n - p)) ≡ first ok none (pagesFrom (p + 1) (n - (p + 1)))
   unfolding first
   first-next p l h =
       rw (row-next p n l, h)
 
-  pub first-none : (p : ℕ) → n ≤ p → first ok none (row p (n - p)) ≡ none
+  pub first-none : (p : ℕ) → n ≤ p → first ok none (pagesFrom p (n - p)) ≡ none
   unfolding first
   first-none p l =
       rw (row-none p n l)
 
   -- past d numbers at which it does not hold
-  pub first-skip : (d p : ℕ) → p + d ≤ n → ((j : ℕ) → p ≤ j → j < p + d → ok j ≡ false) → first ok none (row p (n - p)) ≡ first ok none (row (p + d) (n - (p + d)))
-  first-skip zero p l h = let e : p ≡ p + 0 = omega arith in ap (λ (x : ℕ). first ok none (row x (n - x))) e
+  pub first-skip : (d p : ℕ) → p + d ≤ n → ((j : ℕ) → p ≤ j → j < p + d → ok j ≡ false) → first ok none (pagesFrom p (n - p)) ≡ first ok none (pagesFrom (p + d) (n - (p + d)))
+  first-skip zero p l h = let e : p ≡ p + 0 = omega arith in ap (λ (x : ℕ). first ok none (pagesFrom x (n - x))) e
   first-skip (suc d) p l h =
       let e : p + 1 + d ≡ p + suc d = omega arith in
       first-next p (omega arith) (h p (omega arith) (omega arith))
       ∙ first-skip d (p + 1) (omega arith) (λ j a b. h j (omega arith) (omega arith))
-      ∙ ap (λ (x : ℕ). first ok none (row x (n - x))) e
+      ∙ ap (λ (x : ℕ). first ok none (pagesFrom x (n - x))) e
 
 -- ---- what `first` means
 pub record First (ok : ℕ → Bool) (k p s : ℕ) : Type 0 where
@@ -52,13 +53,13 @@ pub record First (ok : ℕ → Bool) (k p s : ℕ) : Type 0 where
   pub here : ok s ≡ true
   pub none : (j : ℕ) → p ≤ j → j < s → ok j ≡ false
 
-pub first-law : (ok : ℕ → Bool) (none k p : ℕ) → First ok k p (first ok none (row p k)) ⊎ ((first ok none (row p k) ≡ none) × ((j : ℕ) → p ≤ j → j < p + k → ok j ≡ false))
-unfolding first row
+pub first-law : (ok : ℕ → Bool) (none k p : ℕ) → First ok k p (first ok none (pagesFrom p k)) ⊎ ((first ok none (pagesFrom p k) ≡ none) × ((j : ℕ) → p ≤ j → j < p + k → ok j ≡ false))
+unfolding first pagesFrom
 first-law ok none zero p = inr (refl, λ j a b. absurd (omega arith))
 first-law ok none (suc k) p = go (first-law ok none k (p + 1)) (ok p) refl
   where
     r : ℕ
-    r = first ok none (row (p + 1) k)
+    r = first ok none (pagesFrom (p + 1) k)
 
     go : First ok k (p + 1) r ⊎ ((r ≡ none) × ((j : ℕ) → p + 1 ≤ j → j < p + 1 + k → ok j ≡ false)) → (x : Bool) → ok p ≡ x
         → First ok (suc k) p (cond (ok p) p r) ⊎ ((cond (ok p) p r ≡ none) × ((j : ℕ) → p ≤ j → j < p + suc k → ok j ≡ false))
@@ -109,7 +110,7 @@ module _ (t : List ℕ) (n pages : ℕ) where
 
   run-off : (s i : ℕ) → s ≤ i → i < s + pages → free t i ≡ false → run t n pages s ≡ false
   unfolding run
-  run-off s i a b h = ap (λ (x : Bool). leb (s + pages) n && x) (all-not (free t) (row s pages) i (in-row s pages i a b) h) ∙ and-false (leb (s + pages) n)
+  run-off s i a b h = ap (λ (x : Bool). leb (s + pages) n && x) (all-not (free t) (pagesFrom s pages) i (in-row s pages i a b) h) ∙ and-false (leb (s + pages) n)
 
   -- the scan stands at page i: the last len pages are free, fewer than are sought, and no run starts below them
   pub record Scan (i len : ℕ) : Type 0 where
@@ -117,7 +118,7 @@ module _ (t : List ℕ) (n pages : ℕ) where
     pub to : i ≤ n
     pub less : len < pages
     pub free : (j : ℕ) → i ≤ j + len → j < i → isFree (stateOf t j) ≡ true
-    pub left : lowest t n pages ≡ first (run t n pages) n (row (i - len) (n - (i - len)))
+    pub left : lowest t n pages ≡ first (run t n pages) n (pagesFrom (i - len) (n - (i - len)))
 
   pub scan-start : 2 ≤ n → 1 ≤ pages → Scan 2 0
   unfolding lowest
@@ -142,7 +143,7 @@ module _ (t : List ℕ) (n pages : ℕ) where
         to = omega arith;
         less = lt-of-le-ne (omega arith) m;
         free = λ j a b. ⊎-elim (λ q. ap (free t) q ∙ h) (λ q. s .free j (omega arith) q) (eq-or-lt-of-le (omega arith));
-        left = s .left ∙ ap (λ (x : ℕ). first (run t n pages) n (row x (n - x))) d;
+        left = s .left ∙ ap (λ (x : ℕ). first (run t n pages) n (pagesFrom x (n - x))) d;
       }
   scan-next i len r false s l h e m =
       let f = s .from in
@@ -155,7 +156,7 @@ module _ (t : List ℕ) (n pages : ℕ) where
         free = λ j a b. absurd (omega arith);
         left =
             s .left ∙ first-skip (run t n pages) n n (len + 1) (i - len) (omega arith) (λ j a b. run-off j i (omega arith) (omega arith) h)
-            ∙ ap (λ (x : ℕ). first (run t n pages) n (row x (n - x))) d;
+            ∙ ap (λ (x : ℕ). first (run t n pages) n (pagesFrom x (n - x))) d;
       }
 
   pub scan-end : (i len : ℕ) → Scan i len → n ≤ i → n ≡ lowest t n pages
@@ -179,7 +180,7 @@ module _ (t : List ℕ) (n pages : ℕ) where
   pub run-free : (s : ℕ) → 2 ≤ s → run t n pages s ≡ true → FreeRun t n pages s
   unfolding run
   run-free s l e =
-      let h = and-parts (leb (s + pages) n) (all (free t) (row s pages)) e in
+      let h = and-parts (leb (s + pages) n) (all (free t) (pagesFrom s pages)) e in
       (l, leb-true (s + pages) n (h .0), λ q a b. free-is (stateOf t q) (all-row-at (free t) s pages (h .1) q a b))
 
   pub free-run : (s : ℕ) → FreeRun t n pages s → run t n pages s ≡ true
@@ -196,7 +197,6 @@ module _ (t : List ℕ) (n pages : ℕ) where
 -- ---- pages needed: the bytes over the page size, rounded up
 module _ (bytes size : ℕ) (wide : 2 ≤ size) where
   pub needed-exact : bytes % size ≡ 0 → bytes / size ≡ pagesNeeded bytes size
-  unfolding pagesNeeded
   needed-exact e =
       let s = div-add-mod' bytes size in
       let f : bytes + (size - 1) ≡ bytes / size * size + (size - 1) = omega arith in
@@ -206,7 +206,6 @@ module _ (bytes size : ℕ) (wide : 2 ≤ size) where
   some-left n = ⊎-elim (λ l. absurd (n (omega arith))) (λ l. l) (lt-or-le (bytes % size) 1)
 
   pub needed-more : (bytes % size ≡ 0 → ⊥) → bytes / size + 1 ≡ pagesNeeded bytes size
-  unfolding pagesNeeded
   needed-more n =
       let s = div-add-mod' bytes size in
       let l = some-left n in
@@ -222,5 +221,4 @@ module _ (bytes size : ℕ) (wide : 2 ≤ size) where
       omega arith
 
   pub needed-some : 1 ≤ bytes → 1 ≤ pagesNeeded bytes size
-  unfolding pagesNeeded
   needed-some h = le-div-iff-mul-le {k = size} {x = 1} {y = bytes + (size - 1)} (omega arith) .1 (omega arith)

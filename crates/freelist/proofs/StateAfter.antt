@@ -17,7 +17,7 @@ use Rattle.field.proofs.RunLaws.{put-start, length-put}
 use Rattle.freelist.specs.declared.table.State.{State}
 use Rattle.freelist.specs.declared.table.State.the-variants.{InUse, Free, Pending, Broken}
 use Rattle.freelist.specs.Table.{bit, stateOf, isState}
-use Rattle.freelist.specs.Pages.{_∈_, row, pagesOf, rising, each}
+use Rattle.freelist.specs.Pages.{_∈_, pagesFrom, pagesOf, rising, each}
 use Rattle.freelist.specs.Freelist.{hasRoom, faultOf, newNumber, newTable, initNumber, initTable, freeNumber, freeTable, ripe, releaseTable}
 use Rattle.freelist.proofs.PageLaws.{and-parts, in-row, row-in, rising-row}
 use Rattle.freelist.proofs.EachLaws.{length-each, each-in, each-out, each-word}
@@ -126,28 +126,28 @@ module _ (t : List ℕ) (n : ℕ) (ids : List ℕ) (done : initNumber t n ids �
 
 -- ---- free
 module _ (t : List ℕ) (n p count tx : ℕ) (done : freeNumber t n p count ≡ 0) where
-  below : (q : ℕ) → q ∈ row p count → q < 32768
+  below : (q : ℕ) → q ∈ pagesFrom p count → q < 32768
   below q m = let s = freeable t n p count done in let a = s .to in let o = s .table .to in omega (arith, row-in p count q m .1)
 
   -- a page that was freed is pending under tx
   pub free-in : (q : ℕ) → p ≤ q → q < p + count → stateOf (freeTable t p count tx) q ≡ Pending tx
   unfolding freeTable
-  free-in q a b = each-in (λ s. Pending tx) p (row p count) t (freeable t n p count done .table .long) below (rising-row p p count (omega arith)) q (in-row p count q a b)
+  free-in q a b = each-in (λ s. Pending tx) p (pagesFrom p count) t (freeable t n p count done .table .long) below (rising-row p p count (omega arith)) q (in-row p count q a b)
 
   -- and every other page is as it was
   pub free-out : (q : ℕ) → q < 32768 → (p ≤ q → q < p + count → ⊥) → stateOf (freeTable t p count tx) q ≡ stateOf t q
   unfolding freeTable
-  free-out q l o = each-out (λ s. Pending tx) (row p count) t (freeable t n p count done .table .long) below q l (λ m. let r = row-in p count q m in o (r .0) (r .1))
+  free-out q l o = each-out (λ s. Pending tx) (pagesFrom p count) t (freeable t n p count done .table .long) below q l (λ m. let r = row-in p count q m in o (r .0) (r .1))
 
   pub free-stays : faultOf (freeTable t p count tx) n ≡ 0
   unfolding freeTable
   free-stays =
       let s = freeable t n p count done .table in
-      each-stays (λ s. Pending tx) p (row p count) t n n s below (rising-row p p count (omega arith)) (s .from) (s .to) (λ q m a b. refl) (λ q m b. b)
+      each-stays (λ s. Pending tx) p (pagesFrom p count) t n n s below (rising-row p p count (omega arith)) (s .from) (s .to) (λ q m a b. refl) (λ q m b. b)
 
   pub free-rest : (i : ℕ) → 33792 ≤ i → getD (freeTable t p count tx) i 0 ≡ getD t i 0
   unfolding freeTable
-  free-rest i l = each-rest (λ s. Pending tx) (row p count) t (freeable t n p count done .table .long) below i l
+  free-rest i l = each-rest (λ s. Pending tx) (pagesFrom p count) t (freeable t n p count done .table .long) below i l
 
 -- ---- release
 

@@ -14,7 +14,7 @@ use lib.Pow.{shr-shr, shl-shr}
 use lib.ListN.{getD}
 use Rattle.field.proofs.BitLaws.{digit-and, digit-xor, low-digits-zero, low-digits-of-zero, shl-low}
 use Rattle.freelist.specs.Table.{bit, stateFrom, stateOf, isState, isListed}
-use Rattle.freelist.specs.Pages.{row, pagesOf, all}
+use Rattle.freelist.specs.Pages.{pagesFrom, pagesOf, all}
 use Rattle.freelist.proofs.PageLaws.{same-test, all-none, all-part, all-row-of, all-row-at}
 
 -- two digits are in one of the three states where they are not both 1
@@ -72,10 +72,10 @@ module _ (t : List ℕ) (i k : ℕ) (some : 1 ≤ k) (fit : i % 64 + k ≤ 64) w
       let e : 64 ≡ k + (64 - k) = omega arith in
       ap (λ (n : ℕ). (both t i * 2 ^ (64 - k)) % 2 ^ n) e ∙ shl-low (both t i) k (64 - k)
 
-  pub word-test : eqb ((both t i * 2 ^ (64 - k)) % 2 ^ 64) 0 ≡ all (λ p. isState (stateOf t p)) (row i k)
+  pub word-test : eqb ((both t i * 2 ^ (64 - k)) % 2 ^ 64) 0 ≡ all (λ p. isState (stateOf t p)) (pagesFrom i k)
   word-test = same-test _ _ there back
     where
-      there : eqb ((both t i * 2 ^ (64 - k)) % 2 ^ 64) 0 ≡ true → all (λ p. isState (stateOf t p)) (row i k) ≡ true
+      there : eqb ((both t i * 2 ^ (64 - k)) % 2 ^ 64) 0 ≡ true → all (λ p. isState (stateOf t p)) (pagesFrom i k) ≡ true
       there e = all-row-of (λ p. isState (stateOf t p)) i k page
         where
           low : both t i % 2 ^ k ≡ 0
@@ -87,7 +87,7 @@ module _ (t : List ℕ) (i k : ℕ) (some : 1 ≤ k) (fit : i % 64 + k ≤ 64) w
               ap (λ (p : ℕ). isState (stateOf t p)) (sym f) ∙ sym (page-digit (q - i) (omega arith))
               ∙ eq-eqb _ 0 (low-digits-zero (both t i) k low (q - i) (omega arith))
 
-      back : all (λ p. isState (stateOf t p)) (row i k) ≡ true → eqb ((both t i * 2 ^ (64 - k)) % 2 ^ 64) 0 ≡ true
+      back : all (λ p. isState (stateOf t p)) (pagesFrom i k) ≡ true → eqb ((both t i * 2 ^ (64 - k)) % 2 ^ 64) 0 ≡ true
       back h =
           let low = low-digits-of-zero (both t i) k (λ j l. eqb-true _ 0 (page-digit j l ∙ all-row-at (λ p. isState (stateOf t p)) i k h (i + j) (omega arith) (omega arith))) in
           eq-eqb _ 0 (shifted ∙ ap (λ (n : ℕ). n * 2 ^ (64 - k)) low ∙ zero-mul (2 ^ (64 - k)))
@@ -103,7 +103,7 @@ or-test (suc a) b =
 
 module _ (t : List ℕ) (i : ℕ) (fits : getD t i 0 < 2 ^ 64) where
   -- word i shares no digit with its word of pending bits where each of the 64 pages is in one of the three states
-  whole-test : eqb (bitAnd (getD t i 0) (getD t (512 + i) 0)) 0 ≡ all (λ p. isState (stateOf t p)) (row (64 * i) 64)
+  whole-test : eqb (bitAnd (getD t i 0) (getD t (512 + i) 0)) 0 ≡ all (λ p. isState (stateOf t p)) (pagesFrom (64 * i) 64)
   whole-test =
       let w = bitAnd (getD t i 0) (getD t (512 + i) 0) in
       let q : 64 * i / 64 ≡ i = omega arith in
@@ -115,30 +115,30 @@ module _ (t : List ℕ) (i : ℕ) (fits : getD t i 0 < 2 ^ 64) where
 
   -- a turn over the words below m: what word i has is gathered, and the words after it are left to ask
   pub words-turn : (m bad : ℕ) → i < m
-      → (eqb (bitOr bad (bitAnd (getD t i 0) (getD t (512 + i) 0))) 0 && all (λ p. isState (stateOf t p)) (row (64 * (i + 1)) (64 * m - 64 * (i + 1))))
-      ≡ (eqb bad 0 && all (λ p. isState (stateOf t p)) (row (64 * i) (64 * m - 64 * i)))
+      → (eqb (bitOr bad (bitAnd (getD t i 0) (getD t (512 + i) 0))) 0 && all (λ p. isState (stateOf t p)) (pagesFrom (64 * (i + 1)) (64 * m - 64 * (i + 1))))
+      ≡ (eqb bad 0 && all (λ p. isState (stateOf t p)) (pagesFrom (64 * i) (64 * m - 64 * i)))
   words-turn m bad l =
       let ok : ℕ → Bool = λ p. isState (stateOf t p) in
       let w = bitAnd (getD t i 0) (getD t (512 + i) 0) in
       let f : 64 * i + 64 ≡ 64 * (i + 1) = omega arith in
-      let s : all ok (row (64 * i) (64 * m - 64 * i)) ≡ (eqb w 0 && all ok (row (64 * (i + 1)) (64 * m - 64 * (i + 1)))) =
-      all-part ok (64 * i) 64 (64 * m) (omega arith) ∙ ap₂ (λ (x : Bool) (p : ℕ). x && all ok (row p (64 * m - p))) (sym whole-test) f in
-      ap (λ (x : Bool). x && all ok (row (64 * (i + 1)) (64 * m - 64 * (i + 1)))) (or-test bad w)
-      ∙ and-assoc (eqb bad 0) (eqb w 0) (all ok (row (64 * (i + 1)) (64 * m - 64 * (i + 1)))) ∙ ap (λ (x : Bool). eqb bad 0 && x) (sym s)
+      let s : all ok (pagesFrom (64 * i) (64 * m - 64 * i)) ≡ (eqb w 0 && all ok (pagesFrom (64 * (i + 1)) (64 * m - 64 * (i + 1)))) =
+      all-part ok (64 * i) 64 (64 * m) (omega arith) ∙ ap₂ (λ (x : Bool) (p : ℕ). x && all ok (pagesFrom p (64 * m - p))) (sym whole-test) f in
+      ap (λ (x : Bool). x && all ok (pagesFrom (64 * (i + 1)) (64 * m - 64 * (i + 1)))) (or-test bad w)
+      ∙ and-assoc (eqb bad 0) (eqb w 0) (all ok (pagesFrom (64 * (i + 1)) (64 * m - 64 * (i + 1)))) ∙ ap (λ (x : Bool). eqb bad 0 && x) (sym s)
 
 -- no word is left
-pub words-end : (t : List ℕ) (m i bad : ℕ) → m ≤ i → eqb bad 0 ≡ (eqb bad 0 && all (λ p. isState (stateOf t p)) (row (64 * i) (64 * m - 64 * i)))
+pub words-end : (t : List ℕ) (m i bad : ℕ) → m ≤ i → eqb bad 0 ≡ (eqb bad 0 && all (λ p. isState (stateOf t p)) (pagesFrom (64 * i) (64 * m - 64 * i)))
 words-end t m i bad l =
     sym (ap (λ (x : Bool). eqb bad 0 && x) (all-none (λ p. isState (stateOf t p)) (64 * i) (64 * m) (omega arith)) ∙ and-true (eqb bad 0))
 
 -- the pages from 2 to n - 1: those of the first word, of the whole words after it, and of the last word
 pub all-words : (ok : ℕ → Bool) (n : ℕ) → 64 ≤ n
-    → all ok (pagesOf n) ≡ (all ok (row 2 62) && (all ok (row 64 (64 * (n / 64) - 64)) && all ok (row (n - n % 64) (n % 64))))
+    → all ok (pagesOf n) ≡ (all ok (pagesFrom 2 62) && (all ok (pagesFrom 64 (64 * (n / 64) - 64)) && all ok (pagesFrom (n - n % 64) (n % 64))))
 all-words ok n l =
     let a = all-part ok 2 62 n (omega arith) in
     let k = 64 * (n / 64) - 64 in
     let e : 64 + k ≡ n - n % 64 = omega arith in
     let d : n - (64 + k) ≡ n % 64 = omega arith in
-    let b : all ok (row 64 (n - 64)) ≡ (all ok (row 64 k) && all ok (row (n - n % 64) (n % 64))) =
-    all-part ok 64 k n (omega arith) ∙ ap₂ (λ (p m : ℕ). all ok (row 64 k) && all ok (row p m)) e d in
-    a ∙ ap (λ (x : Bool). all ok (row 2 62) && x) b
+    let b : all ok (pagesFrom 64 (n - 64)) ≡ (all ok (pagesFrom 64 k) && all ok (pagesFrom (n - n % 64) (n % 64))) =
+    all-part ok 64 k n (omega arith) ∙ ap₂ (λ (p m : ℕ). all ok (pagesFrom 64 k) && all ok (pagesFrom p m)) e d in
+    a ∙ ap (λ (x : Bool). all ok (pagesFrom 2 62) && x) b

@@ -39,9 +39,9 @@ answerOf zero = answer.Done
 answerOf (suc c) = answer.Refused (suc c)
 
 -- the number of an answer
-abbrev pub numberOf : Answer → ℕ
-numberOf answer.Done = 0
-numberOf (answer.Refused c) = c
+abbrev pub answerNumber : Answer → ℕ
+answerNumber answer.Done = 0
+answerNumber (answer.Refused c) = c
 
 -- ---- `allocate`
 
@@ -83,11 +83,6 @@ listedFields (listed.Refused c) = c ∷ 0 ∷ []
 abbrev pub measuredOf : ℕ → ℕ → Measured
 measuredOf zero k = measured.Bytes k
 measuredOf (suc c) k = measured.Refused (suc c)
-
--- the number of that answer
-abbrev pub measuredNumber : Measured → ℕ
-measuredNumber (measured.Bytes k) = 0
-measuredNumber (measured.Refused c) = c
 
 -- the number, and the size in bytes
 abbrev pub measuredFields : Measured → List ℕ

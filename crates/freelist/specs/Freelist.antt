@@ -1,12 +1,12 @@
 -- Freelist and allocation: for each call the number that it answers, and the table or the list that it leaves where that is 0.
 -- Assumes nothing.
-use Rattle.field.specs.Sizes.{sizeAllowed, countAllowed}
 use mathlib.Core.Path.{_≡_}
 use mathlib.Core.List.{List}
 use mathlib.Core.Bool.{Bool, cond, _&&_}
-use Prim.Native.Nat.{ℕ, _+_, _-_, _*_, _/_, _%_, _≤_, _<_}
-use lib.Dec.{eqb, leb, ltb}
+use Prim.Native.Nat.{ℕ, _+_, _*_, _≤_, _<_}
+use lib.Dec.{leb, ltb}
 use lib.ListN.{length, replicate}
+use Rattle.field.specs.Sizes.{sizeAllowed, countAllowed, pagesNeeded, blockInside}
 use Rattle.field.specs.Run.{putAt}
 use Rattle.freelist.specs.declared.Allocated.{Allocated}
 use Rattle.freelist.specs.declared.Listed.{Listed}
@@ -14,7 +14,7 @@ use Rattle.freelist.specs.declared.Measured.{Measured}
 use Rattle.freelist.specs.declared.table.State.{State}
 use Rattle.freelist.specs.declared.table.State.the-variants.{InUse, Free, Pending, Broken}
 use Rattle.freelist.specs.Table.{stateOf, isState, isInUse, isFree, isListed}
-use Rattle.freelist.specs.Pages.{row, pagesOf, all, first, keep, rising, each}
+use Rattle.freelist.specs.Pages.{pagesFrom, pagesOf, all, first, keep, rising, each}
 use Rattle.freelist.specs.Answers.{_orElse_, _andThen_, allocatedOf, listedOf, measuredOf}
 
 -- ---- sizes allowed
@@ -54,16 +54,16 @@ initTable t ids = each (λ s. Free) ids t
 -- ---- free
 
 -- pages p to p + count - 1 are at least 1, and all inside 2 to n - 1
-unfoldable pub inside : ℕ → ℕ → ℕ → Bool
-inside n p count = leb 1 count && (leb 2 p && leb (p + count) n)
+unfoldable pub blockAllowed : ℕ → ℕ → ℕ → Bool
+blockAllowed n p count = leb 1 count && blockInside n p count
 
 -- and they are all in use, else 11
 unfoldable pub freeNumber : List ℕ → ℕ → ℕ → ℕ → ℕ
-freeNumber t n p count = faultOf t n andThen (inside n p count && all (λ k. isInUse (stateOf t k)) (row p count)) orElse 11
+freeNumber t n p count = faultOf t n andThen (blockAllowed n p count && all (λ k. isInUse (stateOf t k)) (pagesFrom p count)) orElse 11
 
 -- they become pending under tx
 unfoldable pub freeTable : List ℕ → ℕ → ℕ → ℕ → List ℕ
-freeTable t p count tx = each (λ s. Pending tx) (row p count) t
+freeTable t p count tx = each (λ s. Pending tx) (pagesFrom p count) t
 
 -- ---- release
 
@@ -80,13 +80,9 @@ releaseTable t n tx = each (ripe tx) (pagesOf n) t
 
 -- ---- allocate
 
--- the bytes over the page size, rounded up
-unfoldable pub pagesNeeded : ℕ → ℕ → ℕ
-pagesNeeded bytes size = (bytes + (size - 1)) / size
-
 -- pages s to s + pages - 1 are inside 2 to n - 1 and all free
 unfoldable pub run : List ℕ → ℕ → ℕ → ℕ → Bool
-run t n pages s = leb (s + pages) n && all (λ k. isFree (stateOf t k)) (row s pages)
+run t n pages s = leb (s + pages) n && all (λ k. isFree (stateOf t k)) (pagesFrom s pages)
 
 -- the same, as a statement
 abbrev pub FreeRun : List ℕ → ℕ → ℕ → ℕ → Type 0
@@ -115,7 +111,7 @@ allocateAnswer t n size bytes =
 
 -- they become in use
 unfoldable pub allocateTable : List ℕ → ℕ → ℕ → ℕ → List ℕ
-allocateTable t n size bytes = each (λ s. InUse) (row (lowest t n (pagesNeeded bytes size)) (pagesNeeded bytes size)) t
+allocateTable t n size bytes = each (λ s. InUse) (pagesFrom (lowest t n (pagesNeeded bytes size)) (pagesNeeded bytes size)) t
 
 -- ---- listing
 
@@ -138,9 +134,9 @@ pagesList t n ids = putAt ids 0 (listing t n)
 -- ---- size
 
 -- 40 plus 8 for each of them
-unfoldable pub sizeOf : List ℕ → ℕ → ℕ
-sizeOf t n = 40 + 8 * length (listing t n)
+unfoldable pub listingSize : List ℕ → ℕ → ℕ
+listingSize t n = 40 + 8 * length (listing t n)
 
 -- what `size` answers
 abbrev pub sizeAnswer : List ℕ → ℕ → Measured
-sizeAnswer t n = measuredOf (faultOf t n) (sizeOf t n)
+sizeAnswer t n = measuredOf (faultOf t n) (listingSize t n)

@@ -13,13 +13,13 @@ abbrev pub _∈_ : ℕ → List ℕ → Type 0
 q ∈ ps = List·Memᴰ q ps
 
 -- the k pages from p on
-unfoldable pub row : ℕ → ℕ → List ℕ
-row p zero = []
-row p (suc k) = p ∷ row (p + 1) k
+unfoldable pub pagesFrom : ℕ → ℕ → List ℕ
+pagesFrom p zero = []
+pagesFrom p (suc k) = p ∷ pagesFrom (p + 1) k
 
 -- the pages from 2 to n - 1
 abbrev pub pagesOf : ℕ → List ℕ
-pagesOf n = row 2 (n - 2)
+pagesOf n = pagesFrom 2 (n - 2)
 
 -- `ok` holds of each
 unfoldable pub all : (ℕ → Bool) → List ℕ → Bool

@@ -3,7 +3,7 @@ ghost use mathlib.Core.Path.{_≡_};
 ghost use Prim.Native.Nat.{_+_, _-_, _*_, _%_, _≤_};
 ghost use lib.ListN.{length};
 ghost use Rattle.freelist.specs.Table.{stateOf, isState};
-ghost use Rattle.freelist.specs.Pages.{row, pagesOf, all};
+ghost use Rattle.freelist.specs.Pages.{pagesFrom, pagesOf, all};
 ghost use Rattle.freelist.specs.Freelist.{faultOf};
 use super::table::MOST_PAGES;
 use super::table::PENDING_WORDS;
@@ -12,7 +12,7 @@ use super::table::TABLE_WORDS;
 // Whether none of the `k` pages from `i` on, which share a word, has both bits.
 fn word_passes(t: &[u64], i: u64, k: u64) -> bool
     requires { ⌜ (i % 64 + k ≤ 64) × (i + k ≤ 32768) × (33792 ≤ length (now t)) ⌝ }
-    ensures { λ r. ⌜ r ≡ all (λ p. isState (stateOf (now (t .entry)) p)) (row i k) ⌝ }
+    ensures { λ r. ⌜ r ≡ all (λ p. isState (stateOf (now (t .entry)) p)) (pagesFrom i k) ⌝ }
 {
     if k < 1 {
         return true;
@@ -25,7 +25,7 @@ fn word_passes(t: &[u64], i: u64, k: u64) -> bool
 // Whether none of the pages of words 1 to m - 1 has both bits: what each shares with its word of pending bits is gathered, and tested once.
 fn words_pass(t: &[u64], m: usize) -> bool
     requires { ⌜ (m ≤ 512) × (33792 ≤ length (now t)) ⌝ }
-    ensures { λ r. ⌜ r ≡ all (λ p. isState (stateOf (now (t .entry)) p)) (row 64 (64 * m - 64)) ⌝ }
+    ensures { λ r. ⌜ r ≡ all (λ p. isState (stateOf (now (t .entry)) p)) (pagesFrom 64 (64 * m - 64)) ⌝ }
 {
     let mut bad = 0;
     let mut i = 1;

@@ -1,6 +1,6 @@
 // The freelist over a table that the caller lends: each page below 32,768 is in use, free, or pending under a transaction's number.
 ghost use mathlib.Core.Path.{_≡_};
-ghost use Rattle.freelist.specs.Answers.{onDone, answerOf, numberOf, allocatedNumber, listedNumber};
+ghost use Rattle.freelist.specs.Answers.{onDone, answerOf, answerNumber, allocatedNumber, listedNumber};
 ghost use Rattle.freelist.specs.Freelist.{faultOf, newNumber, newTable, initNumber, initTable, freeNumber, freeTable, releaseTable, allocateAnswer, allocateTable, pagesAnswer, pagesList, sizeAnswer};
 
 mod check;
@@ -57,7 +57,7 @@ pub enum Measured {
 // Makes a new table, all pages in use. A table too short for 32,768 pages is 1.
 pub fn new(table: &mut [u64]) -> Answer
     ensures answer { λ r. ⌜ r ≡ answerOf (newNumber (now (table .entry))) ⌝ }
-    ensures lent { λ r. ⌜ now (table .exit) ≡ onDone (numberOf r) (newTable (now (table .entry))) (now (table .entry)) ⌝ }
+    ensures lent { λ r. ⌜ now (table .exit) ≡ onDone (answerNumber r) (newTable (now (table .entry))) (now (table .entry)) ⌝ }
 {
     if table.len() < TABLE_WORDS {
         return Answer::Refused(1);
@@ -69,7 +69,7 @@ pub fn new(table: &mut [u64]) -> Answer
 // Frees the pages of the initial list, which rise strictly, each from 2 to n - 1 and in use, else 11.
 pub fn init(table: &mut [u64], n: u64, ids: &[u64]) -> Answer
     ensures answer { λ r. ⌜ r ≡ answerOf (initNumber (now (table .entry)) n (now (ids .entry))) ⌝ }
-    ensures lent { λ r. ⌜ now (table .exit) ≡ onDone (numberOf r) (initTable (now (table .entry)) (now (ids .entry))) (now (table .entry)) ⌝ }
+    ensures lent { λ r. ⌜ now (table .exit) ≡ onDone (answerNumber r) (initTable (now (table .entry)) (now (ids .entry))) (now (table .entry)) ⌝ }
 {
     let bad = init_number(table, n, ids);
     if bad != 0 {
@@ -82,7 +82,7 @@ pub fn init(table: &mut [u64], n: u64, ids: &[u64]) -> Answer
 // Makes `count` pages from `p` on pending under `tx`: at least one, all inside 2 to n - 1 and in use, else 11.
 pub fn free(table: &mut [u64], n: u64, p: u64, count: u64, tx: u64) -> Answer
     ensures answer { λ r. ⌜ r ≡ answerOf (freeNumber (now (table .entry)) n p count) ⌝ }
-    ensures lent { λ r. ⌜ now (table .exit) ≡ onDone (numberOf r) (freeTable (now (table .entry)) p count tx) (now (table .entry)) ⌝ }
+    ensures lent { λ r. ⌜ now (table .exit) ≡ onDone (answerNumber r) (freeTable (now (table .entry)) p count tx) (now (table .entry)) ⌝ }
 {
     let bad = free_number(table, n, p, count);
     if bad != 0 {
@@ -95,7 +95,7 @@ pub fn free(table: &mut [u64], n: u64, p: u64, count: u64, tx: u64) -> Answer
 // Frees every page that is pending under a number below `tx`.
 pub fn release(table: &mut [u64], n: u64, tx: u64) -> Answer
     ensures answer { λ r. ⌜ r ≡ answerOf (faultOf (now (table .entry)) n) ⌝ }
-    ensures lent { λ r. ⌜ now (table .exit) ≡ onDone (numberOf r) (releaseTable (now (table .entry)) n tx) (now (table .entry)) ⌝ }
+    ensures lent { λ r. ⌜ now (table .exit) ≡ onDone (answerNumber r) (releaseTable (now (table .entry)) n tx) (now (table .entry)) ⌝ }
 {
     let bad = fault(table, n);
     if bad != 0 {

@@ -3,8 +3,8 @@ ghost use mathlib.Core.Path.{_≡_};
 ghost use Prim.Native.Nat.{_+_, _<_, _≤_};
 ghost use lib.ListN.{length};
 ghost use Rattle.freelist.specs.Table.{stateOf, isInUse, put};
-ghost use Rattle.freelist.specs.Pages.{row, all, each};
-ghost use Rattle.freelist.specs.Freelist.{inside, freeNumber, ripe, releaseTable};
+ghost use Rattle.freelist.specs.Pages.{pagesFrom, all, each};
+ghost use Rattle.freelist.specs.Freelist.{blockAllowed, freeNumber, ripe, releaseTable};
 use super::check::fault;
 use super::table::State;
 use super::table::is_in_use;
@@ -14,7 +14,7 @@ use super::table::state_of;
 // Whether each of the `count` pages from `p` on is in use.
 fn all_in_use(t: &[u64], p: u64, count: u64) -> bool
     requires { ⌜ (p + count ≤ 32768) × (33792 ≤ length (now t)) ⌝ }
-    ensures { λ r. ⌜ r ≡ all (λ k. isInUse (stateOf (now (t .entry)) k)) (row p count) ⌝ }
+    ensures { λ r. ⌜ r ≡ all (λ k. isInUse (stateOf (now (t .entry)) k)) (pagesFrom p count) ⌝ }
 {
     let end = p + count;
     let mut i = p;
@@ -29,7 +29,7 @@ fn all_in_use(t: &[u64], p: u64, count: u64) -> bool
 
 // Whether the `count` pages from `p` on are at least one, and lie inside 2 to n - 1.
 fn is_inside(n: u64, p: u64, count: u64) -> bool
-    ensures { λ r. ⌜ r ≡ inside n p count ⌝ }
+    ensures { λ r. ⌜ r ≡ blockAllowed n p count ⌝ }
 {
     if count < 1 {
         return false;
@@ -63,7 +63,7 @@ pub fn free_number(t: &[u64], n: u64, p: u64, count: u64) -> u64
 // Puts each of the `count` pages from `p` on in the state `s`.
 pub fn put_all(t: &mut [u64], p: u64, count: u64, s: State)
     requires { ⌜ (p + count ≤ 32768) × (33792 ≤ length (now t)) ⌝ }
-    ensures { λ _. ⌜ now (t .exit) ≡ each (λ old. s) (row p count) (now (t .entry)) ⌝ }
+    ensures { λ _. ⌜ now (t .exit) ≡ each (λ old. s) (pagesFrom p count) (now (t .entry)) ⌝ }
 {
     let end = p + count;
     let mut i = p;

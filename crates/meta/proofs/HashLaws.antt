@@ -11,16 +11,16 @@ use lib.ListN.{length, drop, getD}
 use lib.Pow.{pow-pos, shr-shr}
 use lib.Seq.{drop-cons}
 use Rattle.field.specs.Field.{bigBytesOf}
-use Rattle.meta.specs.Fnv.{prime, stepOf, hashFrom}
+use Rattle.meta.specs.Fnv.{prime, hashStep, hashFrom}
 
 -- ---- joined bytes
 pub hash-append : (h : ℕ) (a b : List ℕ) → hashFrom h (a ++ b) ≡ hashFrom (hashFrom h a) b
 unfolding hashFrom
 hash-append h [] b = refl
-hash-append h (x ∷ a) b = hash-append (stepOf h x) a b
+hash-append h (x ∷ a) b = hash-append (hashStep h x) a b
 
 -- ---- a turn of the loop over a slice: the byte at i, and what is left
-pub slice-turn : (s : List ℕ) (h i : ℕ) → i < length s → hashFrom (stepOf h (getD s i 0)) (drop (i + 1) s) ≡ hashFrom h (drop i s)
+pub slice-turn : (s : List ℕ) (h i : ℕ) → i < length s → hashFrom (hashStep h (getD s i 0)) (drop (i + 1) s) ≡ hashFrom h (drop i s)
 unfolding hashFrom
 slice-turn s h i l = rw (add-one, drop-cons s i 0 l)
 
@@ -34,7 +34,7 @@ big-cons (suc w) v =
     rw (big-cons w (v / 256), d)
 
 -- a turn of the loop over a number
-pub number-turn : (w v h : ℕ) → 0 < w → hashFrom (stepOf h (v / 2 ^ (8 * (w - 1)) % 256)) (bigBytesOf (w - 1) v) ≡ hashFrom h (bigBytesOf w v)
+pub number-turn : (w v h : ℕ) → 0 < w → hashFrom (hashStep h (v / 2 ^ (8 * (w - 1)) % 256)) (bigBytesOf (w - 1) v) ≡ hashFrom h (bigBytesOf w v)
 unfolding hashFrom
 number-turn w v h l =
     let e : w ≡ suc (w - 1) = omega arith in
@@ -44,4 +44,4 @@ number-turn w v h l =
 pub hash-fits : (h : ℕ) (bytes : List ℕ) → h < 2 ^ 64 → hashFrom h bytes < 2 ^ 64
 unfolding hashFrom
 hash-fits h [] l = l
-hash-fits h (x ∷ bytes) l = hash-fits (stepOf h x) bytes (mod-lt (bitXor h x * prime) (pow-pos 64))
+hash-fits h (x ∷ bytes) l = hash-fits (hashStep h x) bytes (mod-lt (bitXor h x * prime) (pow-pos 64))

@@ -14,7 +14,7 @@ use Rattle.field.proofs.BitLaws.{lt-or-le, same-or}
 use Rattle.field.proofs.FieldLaws.{read-at}
 use Rattle.field.proofs.RunLaws.{length-put}
 use Rattle.meta.specs.Fnv.{basis}
-use Rattle.meta.specs.Meta.{metaAt, hashInput, hashOf, withHash, InRange, readOf, metaBytes, writtenOf}
+use Rattle.meta.specs.Meta.{metaAt, hashInput, hashOf, withHash, InRange, readOf, metaBytes, pageLeft}
 use Rattle.meta.specs.declared.Meta.{Meta}
 use Rattle.meta.specs.declared.MetaRead.the-variants.{Read}
 use Rattle.meta.proofs.HashLaws.{hash-fits}
@@ -104,7 +104,7 @@ own-hash m = refl
 
 -- ---- writing leaves the page as it was, or puts the 72 bytes into a page of 104 or more
 left-or-put : (page : List ℕ) (m : Meta)
-    → (writtenOf page m ≡ page) ⊎ ((32 + length (metaBytes m) ≤ length page) × (writtenOf page m ≡ putAt page 32 (metaBytes m)))
+    → (pageLeft page m ≡ page) ⊎ ((32 + length (metaBytes m) ≤ length page) × (pageLeft page m ≡ putAt page 32 (metaBytes m)))
 left-or-put page m =
     ⊎-elim (λ h. inl (sym (write-short page m h .1)))
     (λ long. ⊎-elim (λ type. inr (omega (arith, length-meta m), sym (write-right page m long type .1)))
@@ -114,7 +114,7 @@ left-or-put page m =
 -- ---- the theorems
 
 -- a meta written to a page of type 3 is read back, with the hash of its fields
-pub read-back : (page : List ℕ) (m : Meta) → InRange m → 104 ≤ length page → getD page 8 0 ≡ 3 → readOf (writtenOf page m) ≡ Read (withHash m)
+pub read-back : (page : List ℕ) (m : Meta) → InRange m → 104 ≤ length page → getD page 8 0 ≡ 3 → readOf (pageLeft page m) ≡ Read (withHash m)
 read-back page m r long type =
     let run = metaBytes m in
     let fits : 32 + length run ≤ length page = omega (arith, length-meta m) in
@@ -124,11 +124,11 @@ read-back page m r long type =
     ∙ sym (read-right (putAt page 32 run) (omega arith) t (withHash m) (sym (meta-back page m r long)) (own-hash m))
 
 -- the page keeps its length
-pub length-stays : (page : List ℕ) (m : Meta) → length (writtenOf page m) ≡ length page
+pub length-stays : (page : List ℕ) (m : Meta) → length (pageLeft page m) ≡ length page
 length-stays page m = ⊎-elim (ap length) (λ p. ap length (p .1) ∙ length-put page 32 (metaBytes m) (p .0)) (left-or-put page m)
 
 -- every byte before 32 and from 104 on stays
-pub outside-stays : (page : List ℕ) (m : Meta) (k : ℕ) → (k < 32) ⊎ (104 ≤ k) → getD (writtenOf page m) k 0 ≡ getD page k 0
+pub outside-stays : (page : List ℕ) (m : Meta) (k : ℕ) → (k < 32) ⊎ (104 ≤ k) → getD (pageLeft page m) k 0 ≡ getD page k 0
 outside-stays page m k h = ⊎-elim (ap at) (λ p. ap at (p .1) ∙ ⊎-elim (before (p .0)) (after (p .0)) h) (left-or-put page m)
   where
     run : List ℕ

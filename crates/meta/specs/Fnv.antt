@@ -14,13 +14,13 @@ abbrev pub prime : ℕ
 prime = 1099511628211
 
 -- the hash h, carried on over one byte
-abbrev pub stepOf : ℕ → ℕ → ℕ
-stepOf h byte = (bitXor h byte * prime) % 2 ^ 64
+abbrev pub hashStep : ℕ → ℕ → ℕ
+hashStep h byte = (bitXor h byte * prime) % 2 ^ 64
 
 -- the hash h, carried on over the bytes in their order
 unfoldable pub hashFrom : ℕ → List ℕ → ℕ
 hashFrom h [] = h
-hashFrom h (byte ∷ bytes) = hashFrom (stepOf h byte) bytes
+hashFrom h (byte ∷ bytes) = hashFrom (hashStep h byte) bytes
 
 -- the hash of the bytes
 abbrev pub fnv1aOf : List ℕ → ℕ

@@ -82,8 +82,8 @@ leftBy (Written hash) page m = putAt page 32 (metaBytes m)
 leftBy (NotWritten number) page m = page
 
 -- the page after writing
-unfoldable pub writtenOf : List ℕ → Meta → List ℕ
-writtenOf page m = leftBy (writeOf page m) page m
+unfoldable pub pageLeft : List ℕ → Meta → List ℕ
+pageLeft page m = leftBy (writeOf page m) page m
 
 -- ---- what the theorems on reading back speak of
 
@@ -130,8 +130,8 @@ pub record InRange (m : Meta) : Type 0 where
   pub «tx_id» : m .«tx_id» < 2 ^ 64
 
 -- 01's number of an answer, and its values; a refusal has none. Reading: the ten fields in their order
-abbrev pub readFields : MetaRead → List ℕ
-readFields (Read m) =
+abbrev pub metaReadFields : MetaRead → List ℕ
+metaReadFields (Read m) =
     0
     ∷ m .«meta_page»
     ∷ m .magic
@@ -144,9 +144,9 @@ readFields (Read m) =
     ∷ m .«tx_id»
     ∷ m .hash
     ∷ []
-readFields (NotRead number) = number ∷ replicate 10 0
+metaReadFields (NotRead number) = number ∷ replicate 10 0
 
 -- the number, and the hash
-abbrev pub writtenFields : MetaWritten → List ℕ
-writtenFields (Written hash) = 0 ∷ hash ∷ []
-writtenFields (NotWritten number) = number ∷ 0 ∷ []
+abbrev pub metaWrittenFields : MetaWritten → List ℕ
+metaWrittenFields (Written hash) = 0 ∷ hash ∷ []
+metaWrittenFields (NotWritten number) = number ∷ 0 ∷ []

@@ -2,7 +2,7 @@
 ghost use mathlib.Core.Path.{_≡_};
 ghost use Prim.Native.Nat.{_*_, _%_, _^_, _≤_};
 ghost use Rattle.field.specs.Field.{bigBytesOf};
-ghost use Rattle.meta.specs.Fnv.{prime, stepOf, hashFrom, fnv1aOf};
+ghost use Rattle.meta.specs.Fnv.{prime, hashStep, hashFrom, fnv1aOf};
 use field::number::byte_at;
 
 // The hash of no bytes.
@@ -20,7 +20,7 @@ fn times_prime(x: u64) -> u64
 
 // The hash `h`, carried on over one byte.
 fn step(h: u64, byte: u64) -> u64
-    ensures { λ r. ⌜ r ≡ stepOf h byte ⌝ }
+    ensures { λ r. ⌜ r ≡ hashStep h byte ⌝ }
 {
     times_prime(h ^ byte)
 }

@@ -6,7 +6,7 @@ ghost use mathlib.Core.Path.{_≡_};
 ghost use Prim.Native.Nat.{_≤_};
 ghost use lib.ListN.{length};
 ghost use Rattle.field.specs.Run.{putAt};
-ghost use Rattle.meta.specs.Meta.{metaAt, hashOf, readOf, metaBytes, writeOf, writtenOf};
+ghost use Rattle.meta.specs.Meta.{metaAt, hashOf, readOf, metaBytes, writeOf, pageLeft};
 use field::number::put_u32;
 use field::number::put_u64;
 use field::number::u32_at;
@@ -143,7 +143,7 @@ fn put_meta(page: &mut [u8], m: Meta) -> u64
 
 // Writes the meta with the hash of its fields: 1 for fewer than 104 bytes, 3 for another type.
 pub fn write_meta(page: &mut [u8], m: Meta) -> MetaWritten
-    ensures { λ r. ⌜ (r ≡ writeOf (now (page .entry)) m) × (now (page .exit) ≡ writtenOf (now (page .entry)) m) ⌝ }
+    ensures { λ r. ⌜ (r ≡ writeOf (now (page .entry)) m) × (now (page .exit) ≡ pageLeft (now (page .entry)) m) ⌝ }
 {
     if page.len() < META_END {
         return MetaWritten::Refused(1);

@@ -11,13 +11,13 @@ use lib.ListN.{take, drop}
 use borrow.Author.Tests.{lt-ltb, le-ltb}
 use Rattle.field.specs.declared.order.Order.{Order}
 use Rattle.field.specs.declared.order.Order.the-variants.{Lower, Equal, Higher}
-use Rattle.field.specs.Order.{orderOf}
+use Rattle.field.specs.Order.{orderOf, isLower, isEqual}
 use Rattle.field.proofs.OrderLaws.{order-refl, order-equal}
 use Rattle.page.specs.Layout.{Entry, countOf, keyOf, entryOf, entriesFrom, entriesOf}
-use Rattle.page.specs.PageRules.{isLower, SoundBlock}
+use Rattle.page.specs.PageRules.{SoundBlock}
 use Rattle.page.proofs.SearchLaws.{before-equal}
 use Rattle.pack.specs.Plan.{replaceAt}
-use Rattle.node.specs.Edit.{refused, written, inserted, isEqual, present, replaced, inOrder, replaceBranch, addBranch}
+use Rattle.node.specs.Edit.{refused, written, inserted, present, replaced, inOrder, replaceBranch, addBranch}
 use Rattle.node.specs.Neighbours.{notAbove, notBelow}
 
 -- ---- tests

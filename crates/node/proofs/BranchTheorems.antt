@@ -10,20 +10,21 @@ use lib.ListN.{length}
 use borrow.Author.Tests.{not-false}
 use Rattle.field.specs.declared.order.Order.{Order}
 use Rattle.field.specs.declared.order.Order.the-variants.{Lower, Equal, Higher}
-use Rattle.field.specs.Order.{orderOf}
+use Rattle.field.specs.Order.{orderOf, isEqual}
 use Rattle.field.specs.Sizes.{sizeAllowed}
 use Rattle.field.proofs.FieldLaws.{Bytes}
+use Rattle.field.proofs.OrderLaws.{is-lower}
 use Rattle.page.specs.declared.rules.Verdict.the-variants.{Sound}
 use Rattle.page.specs.Layout.{Entry, idOf, countOf, isLeaf, entriesOf}
-use Rattle.page.specs.PageRules.{isLower, SoundBlock, lentCheckOf}
+use Rattle.page.specs.PageRules.{SoundBlock, lentCheckOf}
 use Rattle.page.proofs.TestLaws.{and-both}
 use Rattle.pack.specs.Pack.{nodeSize, pack}
-use Rattle.pack.specs.Plan.{entry}
+use Rattle.pack.specs.Plan.{entryWith}
 use Rattle.pack.specs.Entries.{Good, Each, RisingEntries}
 use Rattle.pack.proofs.Decode.{decode}
 use Rattle.pack.proofs.PackedSound.{each-map, good-storable, good-from, rising-from, lent-packed}
 use Rattle.size.specs.Size.{nodeLimit}
-use Rattle.node.specs.Edit.{node, inserted, written, isEqual, present, replaced, inOrder, replaceBranch, addBranch, insertBranchOf, newLeafOf, newBranchOf}
+use Rattle.node.specs.Edit.{node, inserted, written, present, replaced, inOrder, replaceBranch, addBranch, insertBranchOf, newLeafOf, newBranchOf}
 use Rattle.node.proofs.NodeLaws.{allowed-range, lent, lent-as}
 use Rattle.node.proofs.OutcomeLaws.{checked-node, refuse-node, written-node, each-inserted, rising-inserted}
 
@@ -74,11 +75,6 @@ each-replaced F original e (f ∷ es) p h = go (each-replaced F original e es p 
     go rest true q = rw q (p, h .1)
     go rest false q = rw q (h .0, rest)
 
-is-lower : (o : Order) → isLower o ≡ true → o ≡ Lower
-is-lower Lower e = refl
-is-lower Equal e = absurd (let z : _≡_ {A = ℕ} 0 1 = cc in omega arith)
-is-lower Higher e = absurd (let z : _≡_ {A = ℕ} 0 1 = cc in omega arith)
-
 order-rising : (es : List Entry) → inOrder es ≡ true → RisingEntries es
 unfolding inOrder RisingEntries
 order-rising [] h = tt
@@ -99,20 +95,20 @@ module _ (P : ℕ) (b : List ℕ) (original key : List ℕ) (child : ℕ) (out :
   unfolding entriesOf
   source-rising = rising-from false true b source (countOf b) 0 (omega arith)
 
-  added : addBranch P out (entry child key []) (entriesOf false b) ≡ node es → Passes false P (idOf b) es
+  added : addBranch P out (entryWith child key []) (entriesOf false b) ≡ node es → Passes false P (idOf b) es
   unfolding addBranch
   added h =
-      let first = refuse-node (present key (entriesOf false b)) 14 (written false P out (inserted (entry child key []) (entriesOf false b))) h in
-      let last = written-node false P out (inserted (entry child key []) (entriesOf false b)) (first .1) in
+      let first = refuse-node (present key (entriesOf false b)) 14 (written false P out (inserted (entryWith child key []) (entriesOf false b))) h in
+      let last = written-node false P out (inserted (entryWith child key []) (entriesOf false b)) (first .1) in
       rw (sym (last .1))
       (packed false P (idOf b) _ (lent P b passed .allowed) (last .0)
       (record {
-        filled = λ z. absurd (inserted-some (entry child key []) (entriesOf false b) z);
-        good = each-inserted (Good false) (entry child key []) (entriesOf false b) (fits, refl) source-good;
-        rising = rising-inserted (entry child key []) (entriesOf false b) source-rising;
+        filled = λ z. absurd (inserted-some (entryWith child key []) (entriesOf false b) z);
+        good = each-inserted (Good false) (entryWith child key []) (entriesOf false b) (fits, refl) source-good;
+        rising = rising-inserted (entryWith child key []) (entriesOf false b) source-rising;
       }))
 
-  changed : replaceBranch P out original (entry child key []) (entriesOf false b) ≡ node es → Passes false P (idOf b) es
+  changed : replaceBranch P out original (entryWith child key []) (entriesOf false b) ≡ node es → Passes false P (idOf b) es
   unfolding replaceBranch
   changed h =
       let first = refuse-node _ 14 _ h in
@@ -121,9 +117,9 @@ module _ (P : ℕ) (b : List ℕ) (original key : List ℕ) (child : ℕ) (out :
       rw (sym (last .1))
       (packed false P (idOf b) _ (lent P b passed .allowed) (last .0)
       (record {
-        filled = λ z. absurd (replaced-some original (entry child key []) (entriesOf false b) (not-false _ (first .0)) z);
-        good = each-replaced (Good false) original (entry child key []) (entriesOf false b) (fits, refl) source-good;
-        rising = order-rising (replaced original (entry child key []) (entriesOf false b)) (not-false _ (second .0));
+        filled = λ z. absurd (replaced-some original (entryWith child key []) (entriesOf false b) (not-false _ (first .0)) z);
+        good = each-replaced (Good false) original (entryWith child key []) (entriesOf false b) (fits, refl) source-good;
+        rising = order-rising (replaced original (entryWith child key []) (entriesOf false b)) (not-false _ (second .0));
       }))
 
 pub branch-passes : (P : ℕ) (b : List ℕ) (has : Bool) (original key : List ℕ) (child : ℕ) (out : List ℕ) (es : List Entry) → Bytes b → child < 2 ^ 64
@@ -136,7 +132,7 @@ branch-passes P b has original key child out es bytes fits done =
     go has (first .0) (second .0) (third .1)
   where
     go : (t : Bool) → lentCheckOf P b ≡ Sound → isLeaf b ≡ false
-        → cond t (replaceBranch P out original (entry child key []) (entriesOf false b)) (addBranch P out (entry child key []) (entriesOf false b)) ≡ node es
+        → cond t (replaceBranch P out original (entryWith child key []) (entriesOf false b)) (addBranch P out (entryWith child key []) (entriesOf false b)) ≡ node es
         → Passes false P (idOf b) es
     go true passed branch h = changed P b original key child out es bytes fits passed branch h
     go false passed branch h = added P b original key child out es bytes fits passed branch h
@@ -156,7 +152,7 @@ new-branch-passes P id key child out es fits done =
     let first = refuse-node _ 1 _ done in
     let second = refuse-node (ltb child 2) 11 _ (first .1) in
     let last = written-node false P out _ (second .1) in
-    rw (sym (last .1)) (packed false P id (entry child key [] ∷ []) (not-false _ (first .0)) (last .0) (record { filled = one-some; good = ((fits, refl), tt); rising = tt }))
+    rw (sym (last .1)) (packed false P id (entryWith child key [] ∷ []) (not-false _ (first .0)) (last .0) (record { filled = one-some; good = ((fits, refl), tt); rising = tt }))
   where
     one-some : suc 0 ≡ 0 → false ≡ true
     one-some z = absurd (omega arith)

@@ -12,7 +12,7 @@ use Rattle.page.specs.declared.rules.Verdict.the-variants.{Sound, Breach}
 use Rattle.page.specs.Layout.{Entry, countOf, isLeaf, entriesOf}
 use Rattle.page.specs.PageRules.{kindBad, lentCheckOf}
 use Rattle.page.specs.Search.{leafOf}
-use Rattle.pack.specs.Plan.{entry, removeAt}
+use Rattle.pack.specs.Plan.{entryWith, removeAt}
 use Rattle.node.specs.declared.edit.Edited.{Edited}
 use Rattle.node.specs.declared.edit.Edited.the-variants.{Written, Refused}
 use Rattle.node.specs.declared.edit.Deleted.the-variants as deleted
@@ -87,7 +87,7 @@ module _ (P : ℕ) (out : List ℕ) where
     unfolding newBranchOf
     branch-child h l = rw (h, lt-ltb child 2 l)
 
-    pub branch-goes : sizeAllowed P ≡ true → 2 ≤ child → newBranchOf P key child out ≡ written false P out (entry child key [] ∷ [])
+    pub branch-goes : sizeAllowed P ≡ true → 2 ≤ child → newBranchOf P key child out ≡ written false P out (entryWith child key [] ∷ [])
     unfolding newBranchOf
     branch-goes h l = rw (h, le-ltb child 2 l)
 
@@ -107,7 +107,7 @@ module _ (P : ℕ) (b key : List ℕ) (kind : ℕ) (value out : List ℕ) where
     insert-kind h k = rw (passed, h, k)
 
     pub insert-goes : isLeaf b ≡ true → kindBad kind (length value) ≡ false
-        → insertOf P b key kind value out ≡ written true P out (inserted (entry kind key value) (entriesOf true b))
+        → insertOf P b key kind value out ≡ written true P out (inserted (entryWith kind key value) (entriesOf true b))
     unfolding insertOf
     insert-goes h k = rw (passed, h, k)
 
@@ -127,11 +127,11 @@ module _ (P : ℕ) (b : List ℕ) (has : Bool) (original key : List ℕ) (child 
     branched-child h l = rw (passed, h, lt-ltb child 2 l)
 
     pub branched-replaces : isLeaf b ≡ false → 2 ≤ child → has ≡ true
-        → insertBranchOf P b has original key child out ≡ replaceBranch P out original (entry child key []) (entriesOf false b)
+        → insertBranchOf P b has original key child out ≡ replaceBranch P out original (entryWith child key []) (entriesOf false b)
     unfolding insertBranchOf
     branched-replaces h l t = rw (passed, h, le-ltb child 2 l, t)
 
     pub branched-adds : isLeaf b ≡ false → 2 ≤ child → has ≡ false
-        → insertBranchOf P b has original key child out ≡ addBranch P out (entry child key []) (entriesOf false b)
+        → insertBranchOf P b has original key child out ≡ addBranch P out (entryWith child key []) (entriesOf false b)
     unfolding insertBranchOf
     branched-adds h l t = rw (passed, h, le-ltb child 2 l, t)

@@ -15,7 +15,7 @@ use Rattle.page.specs.declared.search.Place.{Place}
 use Rattle.page.specs.Layout.{Entry, countOf, keyOf, entryOf, entriesFrom, entriesOf}
 use Rattle.page.specs.PageRules.{SoundBlock}
 use Rattle.page.proofs.SearchLaws.{Missing, before-equal}
-use Rattle.pack.specs.Plan.{entry, insertAt, replaceAt}
+use Rattle.pack.specs.Plan.{entryWith, insertAt, replaceAt}
 use Rattle.node.specs.Edit.{inserted}
 use Rattle.node.specs.Neighbours.{Between}
 
@@ -45,18 +45,18 @@ module _ (leaf : Bool) (b : List ℕ) (e : Entry) where
 
 -- ---- in a block
 module _ (leaf : Bool) (b : List ℕ) (tag : ℕ) (key value : List ℕ) (i : ℕ) where
-  pub insert-between : Between leaf b key i → inserted (entry tag key value) (entriesOf leaf b) ≡ insertAt i (entry tag key value) (entriesOf leaf b)
+  pub insert-between : Between leaf b key i → inserted (entryWith tag key value) (entriesOf leaf b) ≡ insertAt i (entryWith tag key value) (entriesOf leaf b)
   unfolding entriesOf
   insert-between h =
-      insert-from leaf b (entry tag key value) (countOf b) 0 i (h .upto) (λ j p q. h .lower j (omega arith))
+      insert-from leaf b (entryWith tag key value) (countOf b) 0 i (h .upto) (λ j p q. h .lower j (omega arith))
       (λ l. rw zero-add (h .higher i (omega arith) l))
 
   pub insert-equal : SoundBlock leaf true b → i < countOf b → keyOf leaf b i ≡ key
-      → inserted (entry tag key value) (entriesOf leaf b) ≡ replaceAt i (entry tag key value) (entriesOf leaf b)
+      → inserted (entryWith tag key value) (entriesOf leaf b) ≡ replaceAt i (entryWith tag key value) (entriesOf leaf b)
   unfolding entriesOf
   insert-equal s l same =
       let q : orderOf (keyOf leaf b i) key ≡ Equal = rw same (order-refl key) in
-      replace-from leaf b (entry tag key value) (countOf b) 0 i l (λ j p m. before-equal leaf true b s key i l q j (omega arith)) (rw zero-add q)
+      replace-from leaf b (entryWith tag key value) (countOf b) 0 i l (λ j p m. before-equal leaf true b s key i l q j (omega arith)) (rw zero-add q)
 
 -- ---- by what the search told
 pub place-is : (p : Place) (t : Bool) → p .found ≡ t → p ≡ record { at = p .at; found = t }

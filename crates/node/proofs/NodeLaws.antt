@@ -14,7 +14,7 @@ use Rattle.page.specs.Layout.{isLeaf}
 use Rattle.page.specs.PageRules.{SoundBlock, lentCheckOf}
 use Rattle.page.proofs.TestLaws.{and-both}
 use Rattle.page.proofs.LentLaws.{lent-iff, lent-sound}
-use Rattle.size.specs.Size.{nodeLimit, counted}
+use Rattle.size.specs.Size.{nodeLimit, cappedSize}
 
 -- ---- page sizes
 pub allowed-range : (P : ℕ) → sizeAllowed P ≡ true → (1024 ≤ P) × (P ≤ 65536)
@@ -40,8 +40,8 @@ pub lent-as : (P : ℕ) (b : List ℕ) (leaf : Bool) → lentCheckOf P b ≡ Sou
 lent-as P b leaf e h = let s : SoundBlock (isLeaf b) true b = lent P b e .sound in rw h at s
 
 -- ---- a counted size past the limit, and one within it
-pub past-limit : (r size : ℕ) → r ≡ counted size → nodeLimit < r → ltb nodeLimit size ≡ true
+pub past-limit : (r size : ℕ) → r ≡ cappedSize size → nodeLimit < r → ltb nodeLimit size ≡ true
 past-limit r size e h = lt-ltb nodeLimit size (omega arith)
 
-pub within-limit : (r size : ℕ) → r ≡ counted size → r ≤ nodeLimit → (r ≡ size) × (ltb nodeLimit size ≡ false)
+pub within-limit : (r size : ℕ) → r ≡ cappedSize size → r ≤ nodeLimit → (r ≡ size) × (ltb nodeLimit size ≡ false)
 within-limit r size e h = (omega arith, le-ltb nodeLimit size (omega arith))

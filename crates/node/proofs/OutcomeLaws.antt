@@ -15,14 +15,15 @@ use Rattle.field.proofs.OrderLaws.{order-equal, lower-iff}
 use Rattle.page.specs.declared.rules.Verdict.{Verdict}
 use Rattle.page.specs.declared.rules.Verdict.the-variants.{Sound, Breach}
 use Rattle.page.specs.Layout.{Entry, entryOf, entriesFrom}
+use Rattle.page.specs.PageRules.{afterCheck}
 use Rattle.pack.specs.Pack.{nodeSize, blockSize}
 use Rattle.pack.specs.Entries.{Each, RisingEntries}
 use Rattle.size.specs.Size.{nodeLimit}
-use Rattle.node.specs.Edit.{Outcome, node, checked, refuse, written, inserted}
+use Rattle.node.specs.Edit.{Outcome, refused, node, refuse, written, inserted}
 
 -- ---- an outcome that is a node
 module _ {es : List Entry} where
-  pub checked-node : (v : Verdict) (o : Outcome) → checked v o ≡ node es → (v ≡ Sound) × (o ≡ node es)
+  pub checked-node : (v : Verdict) (o : Outcome) → afterCheck v refused o ≡ node es → (v ≡ Sound) × (o ≡ node es)
   checked-node Sound o e = (refl, e)
   checked-node (Breach n i) o e = absurd (let z : _≡_ {A = ℕ} 0 1 = cc in omega arith)
 

@@ -11,10 +11,11 @@ use lib.ListN.{length, drop}
 use borrow.Author.Tests.{lt-ltb, le-ltb}
 use Rattle.page.specs.Layout.{Entry, elementSize}
 use Rattle.pack.specs.declared.write.Plan.{Plan}
-use Rattle.pack.specs.Pack.{nodeSize, pagesNeeded, blockSize, pack}
+use Rattle.field.specs.Sizes.{pagesNeeded}
+use Rattle.pack.specs.Pack.{nodeSize, blockSize, pack}
 use Rattle.pack.specs.Plan.{range, fresh, planned}
 use Rattle.pack.proofs.PackLaws.{node-append}
-use Rattle.size.specs.Size.{nodeLimit, counted, entriesSize}
+use Rattle.size.specs.Size.{nodeLimit, cappedSize, entriesSize}
 use Rattle.size.proofs.SizeLaws.{size-least}
 use Rattle.node.specs.declared.edit.Edited.the-variants.{Written, Refused}
 use Rattle.node.specs.Edit.{written, Edits}
@@ -47,11 +48,11 @@ module _ (leaf : Bool) (p : Plan) (key value : List ℕ) where
       omega arith
 
 -- three parts counted one after the other
-pub counted-three : {r₁ r₂ r₃ : ℕ} (sum a b c : ℕ) → r₁ ≡ counted (sum + a) → r₂ ≡ counted (r₁ + b) → r₃ ≡ counted (r₂ + c) → r₃ ≡ counted (sum + (a + (b + c)))
+pub counted-three : {r₁ r₂ r₃ : ℕ} (sum a b c : ℕ) → r₁ ≡ cappedSize (sum + a) → r₂ ≡ cappedSize (r₁ + b) → r₃ ≡ cappedSize (r₂ + c) → r₃ ≡ cappedSize (sum + (a + (b + c)))
 counted-three sum a b c e f g = omega arith
 
 -- ---- the ends: too large, too short, written; in the code's numbers, the counted size and the pages
-module _ (leaf : Bool) (id P : ℕ) (out : List ℕ) (es : List Entry) (size : ℕ) (told : size ≡ counted (nodeSize leaf es)) where
+module _ (leaf : Bool) (id P : ℕ) (out : List ℕ) (es : List Entry) (size : ℕ) (told : size ≡ cappedSize (nodeSize leaf es)) where
   pub too-large : nodeLimit < size → Edits leaf id P out (written leaf P out es) (Refused 15 0) out
   unfolding written
   too-large h = let e = past-limit size (nodeSize leaf es) told h in record { answers = rw e; leaves = rw e }

@@ -19,7 +19,7 @@ use Rattle.page.specs.Search.{placeOf, indexOf}
 use Rattle.page.proofs.EntryLaws.{rising-far}
 use Rattle.page.proofs.SearchLaws.{absent-iff}
 use Rattle.pack.specs.Pack.{nodeSize, pack}
-use Rattle.pack.specs.Plan.{entry, range, removeAt}
+use Rattle.pack.specs.Plan.{entryWith, range, removeAt}
 use Rattle.pack.specs.Entries.{Good, Each, RisingEntries}
 use Rattle.pack.proofs.RangeLaws.{range-first, range-last}
 use Rattle.pack.proofs.Decode.{decode}
@@ -73,8 +73,8 @@ module _ (P : ℕ) (b key : List ℕ) (kind : ℕ) (value out : List ℕ) (es : 
     passed : lentCheckOf P b ≡ Sound
     leaf : isLeaf b ≡ true
     kind-good : kindBad kind (length value) ≡ false
-    small : nodeSize true (inserted (entry kind key value) (entriesOf true b)) ≤ nodeLimit
-    same : inserted (entry kind key value) (entriesOf true b) ≡ es
+    small : nodeSize true (inserted (entryWith kind key value) (entriesOf true b)) ≤ nodeLimit
+    same : inserted (entryWith kind key value) (entriesOf true b) ≡ es
 
   went : Inserted
   unfolding insertOf
@@ -88,27 +88,27 @@ module _ (P : ℕ) (b key : List ℕ) (kind : ℕ) (value out : List ℕ) (es : 
   source : SoundBlock true true b
   source = lent-as P b true (went .passed) (went .leaf)
 
-  good : Each (Good true) (inserted (entry kind key value) (entriesOf true b))
+  good : Each (Good true) (inserted (entryWith kind key value) (entriesOf true b))
   unfolding entriesOf
-  good = each-inserted (Good true) (entry kind key value) _ (went .kind-good) (good-from true true b source bytes (countOf b) 0 (omega arith))
+  good = each-inserted (Good true) (entryWith kind key value) _ (went .kind-good) (good-from true true b source bytes (countOf b) 0 (omega arith))
 
-  rising : RisingEntries (inserted (entry kind key value) (entriesOf true b))
+  rising : RisingEntries (inserted (entryWith kind key value) (entriesOf true b))
   unfolding entriesOf
-  rising = rising-inserted (entry kind key value) _ (rising-from true true b source (countOf b) 0 (omega arith))
+  rising = rising-inserted (entryWith kind key value) _ (rising-from true true b source (countOf b) 0 (omega arith))
 
   pub insert-passes : lentCheckOf P (pack true (idOf b) es P) ≡ Sound
   insert-passes = rw (sym (went .same)) (made-passes P (idOf b) b _ (went .passed) (went .small) good rising)
 
-  pub insert-holds : entriesOf true (pack true (idOf b) es P) ≡ inserted (entry kind key value) (entriesOf true b)
+  pub insert-holds : entriesOf true (pack true (idOf b) es P) ≡ inserted (entryWith kind key value) (entriesOf true b)
   insert-holds = rw (sym (went .same)) (made-holds P (idOf b) b _ (went .passed) (went .small) good rising)
 
   pub insert-found : placeOf true (pack true (idOf b) es P) key .found ≡ true
-  insert-found = rw (sym (went .same)) (go (placeOf true (pack true (idOf b) (inserted (entry kind key value) (entriesOf true b)) P) key .found) refl)
+  insert-found = rw (sym (went .same)) (go (placeOf true (pack true (idOf b) (inserted (entryWith kind key value) (entriesOf true b)) P) key .found) refl)
     where
-      go : (t : Bool) → placeOf true (pack true (idOf b) (inserted (entry kind key value) (entriesOf true b)) P) key .found ≡ t → t ≡ true
+      go : (t : Bool) → placeOf true (pack true (idOf b) (inserted (entryWith kind key value) (entriesOf true b)) P) key .found ≡ t → t ≡ true
       go true h = refl
       go false h =
-          absurd (inserted-there (entry kind key value) (entriesOf true b) (made-none P (idOf b) b _ (went .passed) (went .small) good rising key h))
+          absurd (inserted-there (entryWith kind key value) (entriesOf true b) (made-none P (idOf b) b _ (went .passed) (went .small) good rising key h))
 
   pub insert-index : indexOf P (pack true (idOf b) es P) key ≡ At (record { at = placeOf true (pack true (idOf b) es P) key .at; found = true })
   insert-index = rw (sym (went .same)) (made-index P (idOf b) b _ (went .passed) (went .small) good rising key true (rw (went .same) insert-found))

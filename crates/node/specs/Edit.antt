@@ -8,15 +8,13 @@ use lib.Dec.{ltb}
 use lib.ListN.{length, drop}
 use Rattle.field.specs.declared.order.Order.{Order}
 use Rattle.field.specs.declared.order.Order.the-variants.{Lower, Equal, Higher}
-use Rattle.field.specs.Order.{orderOf}
+use Rattle.field.specs.Order.{orderOf, isLower, isEqual}
 use Rattle.field.specs.Sizes.{sizeAllowed}
-use Rattle.page.specs.declared.rules.Verdict.{Verdict}
-use Rattle.page.specs.declared.rules.Verdict.the-variants.{Sound, Breach}
 use Rattle.page.specs.Layout.{Entry, countOf, isLeaf, entriesOf}
-use Rattle.page.specs.PageRules.{kindBad, isLower, lentCheckOf}
+use Rattle.page.specs.PageRules.{afterCheck, kindBad, lentCheckOf}
 use Rattle.page.specs.Search.{leafOf}
 use Rattle.pack.specs.Pack.{nodeSize, blockSize, pack}
-use Rattle.pack.specs.Plan.{entry, removeAt}
+use Rattle.pack.specs.Plan.{entryWith, removeAt}
 use Rattle.size.specs.Size.{nodeLimit}
 use Rattle.node.specs.declared.edit.Edited.{Edited}
 use Rattle.node.specs.declared.edit.Edited.the-variants as edited
@@ -27,11 +25,6 @@ use Rattle.node.specs.declared.edit.Deleted.the-variants as deleted
 pub data Outcome : Type 0 where
   refused : ℕ → ℕ → Outcome
   node : List Entry → Outcome
-
--- the lent block is checked first
-abbrev pub checked : Verdict → Outcome → Outcome
-checked Sound o = o
-checked (Breach number element) o = refused number element
 
 -- a refusal that names no element, where there is one
 abbrev pub refuse : Bool → ℕ → Outcome → Outcome
@@ -58,7 +51,7 @@ pub record Edits (leaf : Bool) (id P : ℕ) (out : List ℕ) (o : Outcome) (r : 
 -- ---- delete: a branch, or an index not below the count, is 11
 unfoldable pub deleteOf : ℕ → List ℕ → ℕ → List ℕ → Outcome
 deleteOf P b i out =
-    checked (lentCheckOf P b)
+    afterCheck (lentCheckOf P b) refused
     (refuse (not (isLeaf b)) 11 (refuse (not (ltb i (countOf b))) 11 (written true P out (removeAt i (entriesOf true b)))))
 
 -- its answer names what was removed beside the bytes written
@@ -71,30 +64,25 @@ unfoldable pub newLeafOf : ℕ → List ℕ → Outcome
 newLeafOf P out = refuse (not (sizeAllowed P)) 1 (written true P out [])
 
 unfoldable pub newBranchOf : ℕ → List ℕ → ℕ → List ℕ → Outcome
-newBranchOf P key child out = refuse (not (sizeAllowed P)) 1 (refuse (ltb child 2) 11 (written false P out (entry child key [] ∷ [])))
+newBranchOf P key child out = refuse (not (sizeAllowed P)) 1 (refuse (ltb child 2) 11 (written false P out (entryWith child key [] ∷ [])))
 
 -- ---- insert in a leaf replaces at an equal key, else inserts in order
-abbrev pub placed : Order → Entry → Entry → List Entry → List Entry → List Entry
-placed Lower e f es rest = f ∷ rest
-placed Equal e f es rest = e ∷ es
-placed Higher e f es rest = e ∷ f ∷ es
+abbrev pub insertedBy : Order → Entry → Entry → List Entry → List Entry → List Entry
+insertedBy Lower e f es rest = f ∷ rest
+insertedBy Equal e f es rest = e ∷ es
+insertedBy Higher e f es rest = e ∷ f ∷ es
 
 unfoldable pub inserted : Entry → List Entry → List Entry
 inserted e [] = e ∷ []
-inserted e (f ∷ es) = placed (orderOf (f .key) (e .key)) e f es (inserted e es)
+inserted e (f ∷ es) = insertedBy (orderOf (f .key) (e .key)) e f es (inserted e es)
 
 -- a branch, a kind above 1 or a bucket value not of 16 bytes is 11
 unfoldable pub insertOf : ℕ → List ℕ → List ℕ → ℕ → List ℕ → List ℕ → Outcome
 insertOf P b key kind value out =
-    checked (lentCheckOf P b)
-    (refuse (not (isLeaf b)) 11 (refuse (kindBad kind (length value)) 11 (written true P out (inserted (entry kind key value) (entriesOf true b)))))
+    afterCheck (lentCheckOf P b) refused
+    (refuse (not (isLeaf b)) 11 (refuse (kindBad kind (length value)) 11 (written true P out (inserted (entryWith kind key value) (entriesOf true b)))))
 
 -- ---- insert_branch
-abbrev pub isEqual : Order → Bool
-isEqual Lower = false
-isEqual Equal = true
-isEqual Higher = false
-
 -- whether a key is among the entries'
 unfoldable pub present : List ℕ → List Entry → Bool
 present key [] = false
@@ -122,9 +110,9 @@ addBranch P out e es = refuse (present (e .key) es) 14 (written false P out (ins
 -- a leaf, or a branch page number below 2, is 11
 unfoldable pub insertBranchOf : ℕ → List ℕ → Bool → List ℕ → List ℕ → ℕ → List ℕ → Outcome
 insertBranchOf P b has original key child out =
-    checked (lentCheckOf P b)
+    afterCheck (lentCheckOf P b) refused
     (refuse (isLeaf b) 11
     (refuse (ltb child 2) 11
     (cond has
-    (replaceBranch P out original (entry child key []) (entriesOf false b))
-    (addBranch P out (entry child key []) (entriesOf false b)))))
+    (replaceBranch P out original (entryWith child key []) (entriesOf false b))
+    (addBranch P out (entryWith child key []) (entriesOf false b)))))

@@ -4,11 +4,10 @@ use mathlib.Core.Bool.{cond, _||_}
 use mathlib.Core.List.{List}
 use Prim.Native.Nat.{ℕ, _/_}
 use lib.Dec.{ltb}
-use Rattle.page.specs.declared.rules.Verdict.{Verdict}
-use Rattle.page.specs.declared.rules.Verdict.the-variants.{Sound, Breach}
+use Rattle.field.specs.Sizes.{pagesNeeded}
 use Rattle.page.specs.Layout.{countOf, isLeaf, entriesOf}
-use Rattle.page.specs.PageRules.{lentCheckOf}
-use Rattle.pack.specs.Pack.{nodeSize, pagesNeeded}
+use Rattle.page.specs.PageRules.{afterCheck, lentCheckOf}
+use Rattle.pack.specs.Pack.{nodeSize}
 use Rattle.size.specs.Size.{nodeLimit}
 use Rattle.node.specs.declared.measure.Measure.{Measure}
 use Rattle.node.specs.declared.measure.Measure.the-variants as measure
@@ -20,19 +19,11 @@ abbrev pub sizeIn : List ℕ → ℕ
 sizeIn b = nodeSize (isLeaf b) (entriesOf (isLeaf b) b)
 
 -- `size`: the node size and the pages needed, 15 above the limit
-abbrev pub orUnmeasured : Verdict → Measure → Measure
-orUnmeasured Sound a = a
-orUnmeasured (Breach number element) a = measure.Refused number element
-
 unfoldable pub sizeOf : ℕ → List ℕ → Measure
 sizeOf P b =
-    orUnmeasured (lentCheckOf P b)
+    afterCheck (lentCheckOf P b) measure.Refused
     (cond (ltb nodeLimit (sizeIn b)) (measure.Refused 15 0) (measure.Bytes (sizeIn b) (pagesNeeded (sizeIn b) P)))
 
 -- `needs_merging`: wanted with fewer than 2 entries, or a size below P / 4, rounded down
-abbrev pub orUnasked : Verdict → Merging → Merging
-orUnasked Sound a = a
-orUnasked (Breach number element) a = merging.Refused number element
-
 unfoldable pub needsMergingOf : ℕ → List ℕ → Merging
-needsMergingOf P b = orUnasked (lentCheckOf P b) (merging.Wanted (ltb (countOf b) 2 || ltb (sizeIn b) (P / 4)))
+needsMergingOf P b = afterCheck (lentCheckOf P b) merging.Refused (merging.Wanted (ltb (countOf b) 2 || ltb (sizeIn b) (P / 4)))

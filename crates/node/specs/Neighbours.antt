@@ -6,9 +6,8 @@ use mathlib.Core.List.{List}
 use Prim.Native.Nat.{ℕ, _+_, _-_, _≤_, _<_}
 use lib.Dec.{ltb}
 use Rattle.field.specs.declared.order.Order.the-variants.{Lower, Higher}
-use Rattle.field.specs.Order.{orderOf}
+use Rattle.field.specs.Order.{orderOf, isLower}
 use Rattle.page.specs.Layout.{countOf, keyOf}
-use Rattle.page.specs.PageRules.{isLower}
 
 -- the place of an absent key: the keys before it are lower, and those from it on higher
 pub record Between (leaf : Bool) (b key : List ℕ) (i : ℕ) : Type 0 where

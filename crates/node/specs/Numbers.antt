@@ -2,7 +2,7 @@
 -- Assumes nothing.
 use mathlib.Core.List.{List, [], _∷_}
 use Prim.Native.Nat.{ℕ, _-_}
-use Rattle.page.specs.Numbers.{one}
+use Rattle.field.specs.Field.{flagOf}
 use Rattle.node.specs.declared.edit.Edited.{Edited}
 use Rattle.node.specs.declared.edit.Edited.the-variants as edited
 use Rattle.node.specs.declared.edit.Deleted.{Deleted}
@@ -30,4 +30,4 @@ unsizedFields number element = number ∷ 0 ∷ 0 ∷ 0 ∷ 0 ∷ element ∷ []
 abbrev pub sizedFields : Measure → Merging → List ℕ
 sizedFields (measure.Refused number element) m = unsizedFields number element
 sizedFields (measure.Bytes size pages) (merging.Refused number element) = unsizedFields number element
-sizedFields (measure.Bytes size pages) (merging.Wanted wanted) = 0 ∷ size ∷ pages ∷ one wanted ∷ 0 ∷ 0 ∷ []
+sizedFields (measure.Bytes size pages) (merging.Wanted wanted) = 0 ∷ size ∷ pages ∷ flagOf wanted ∷ 0 ∷ 0 ∷ []

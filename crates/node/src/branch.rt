@@ -6,7 +6,7 @@ ghost use Prim.Native.Nat.{_<_};
 ghost use Rattle.page.specs.declared.rules.Verdict.the-variants.{Sound};
 ghost use Rattle.page.specs.Layout.{idOf, countOf, isLeaf, entriesOf};
 ghost use Rattle.page.specs.PageRules.{SoundBlock, lentCheckOf};
-ghost use Rattle.pack.specs.Plan.{entry, replaceAt};
+ghost use Rattle.pack.specs.Plan.{entryWith, replaceAt};
 ghost use Rattle.node.specs.Edit.{written, Edits, replaceBranch, addBranch, insertBranchOf};
 ghost use Rattle.node.specs.Neighbours.{notAbove, notBelow};
 use super::edit::Edited;
@@ -56,7 +56,7 @@ fn not_below(b: &[u8], n: usize, i: usize, key: &[u8]) -> bool
 fn replace(b: &[u8], p: usize, i: usize, key: &[u8], child: u64, out: &mut [u8]) -> Edited
     requires { ⌜ (lentCheckOf p (now b) ≡ Sound) × (isLeaf (now b) ≡ false) × (i < countOf (now b)) ⌝ }
     ensures { λ r. ⌜ Edits false (idOf (now (b .entry))) p (now (out .entry))
-        (written false p (now (out .entry)) (replaceAt i (entry child (now (key .entry)) []) (entriesOf false (now (b .entry))))) r (now (out .exit)) ⌝ }
+        (written false p (now (out .entry)) (replaceAt i (entryWith child (now (key .entry)) []) (entriesOf false (now (b .entry))))) r (now (out .exit)) ⌝ }
 {
     let n = count(b);
     let page = id(b) as u64;
@@ -82,7 +82,7 @@ fn replace_branch(
 ) -> Edited
     requires { ⌜ (lentCheckOf p (now b) ≡ Sound) × (isLeaf (now b) ≡ false) ⌝ }
     ensures { λ r. ⌜ Edits false (idOf (now (b .entry))) p (now (out .entry))
-        (replaceBranch p (now (out .entry)) (now (original .entry)) (entry child (now (key .entry)) []) (entriesOf false (now (b .entry)))) r (now (out .exit)) ⌝ }
+        (replaceBranch p (now (out .entry)) (now (original .entry)) (entryWith child (now (key .entry)) []) (entriesOf false (now (b .entry)))) r (now (out .exit)) ⌝ }
 {
     let n = count(b);
     let place = find(b, false, n, original);
@@ -103,7 +103,7 @@ fn replace_branch(
 fn add_branch(b: &[u8], p: usize, key: &[u8], child: u64, out: &mut [u8]) -> Edited
     requires { ⌜ (lentCheckOf p (now b) ≡ Sound) × (isLeaf (now b) ≡ false) ⌝ }
     ensures { λ r. ⌜ Edits false (idOf (now (b .entry))) p (now (out .entry))
-        (addBranch p (now (out .entry)) (entry child (now (key .entry)) []) (entriesOf false (now (b .entry)))) r (now (out .exit)) ⌝ }
+        (addBranch p (now (out .entry)) (entryWith child (now (key .entry)) []) (entriesOf false (now (b .entry)))) r (now (out .exit)) ⌝ }
 {
     let place = find(b, false, count(b), key);
     if place.found {

@@ -5,7 +5,7 @@ ghost use Prim.Native.Nat.{_<_, _≤_};
 ghost use Rattle.page.specs.declared.rules.Verdict.the-variants.{Sound};
 ghost use Rattle.page.specs.Layout.{idOf, countOf, isLeaf, entriesOf};
 ghost use Rattle.page.specs.PageRules.{lentCheckOf};
-ghost use Rattle.pack.specs.Plan.{entry, maybe, removeAt};
+ghost use Rattle.pack.specs.Plan.{entryWith, maybe, removeAt};
 ghost use Rattle.node.specs.Edit.{written, Edits, output, deleteOf, deletedAnswer, newLeafOf, newBranchOf, insertOf};
 use super::place::put;
 use super::result::write_planned;
@@ -87,7 +87,7 @@ fn write_new(
 ) -> Edited
     requires { ⌜ (0 < p) × (p ≤ 65536) ⌝ }
     ensures { λ r. ⌜ Edits leaf id p (now (out .entry))
-        (written leaf p (now (out .entry)) (maybe some (entry tag (now (key .entry)) (now (value .entry))))) r (now (out .exit)) ⌝ }
+        (written leaf p (now (out .entry)) (maybe some (entryWith tag (now (key .entry)) (now (value .entry))))) r (now (out .exit)) ⌝ }
 {
     let source = [0; 32];
     let plan = Plan {

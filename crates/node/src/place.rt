@@ -7,7 +7,7 @@ ghost use Rattle.page.specs.declared.rules.Verdict.the-variants.{Sound};
 ghost use Rattle.page.specs.Layout.{idOf, countOf, isLeaf, entriesOf};
 ghost use Rattle.page.specs.PageRules.{SoundBlock, lentCheckOf};
 ghost use Rattle.page.specs.Search.{placeOf};
-ghost use Rattle.pack.specs.Plan.{entry, planned, Within};
+ghost use Rattle.pack.specs.Plan.{entryWith, planned, Within};
 ghost use Rattle.node.specs.Edit.{written, Edits, inserted};
 ghost use Rattle.node.specs.Neighbours.{Between};
 use super::edit::Edited;
@@ -39,7 +39,7 @@ fn plan_of(b: &[u8], leaf: bool, tag: u64, key: &[u8]) -> Plan
     requires { ⌜ SoundBlock leaf true (now b) ⌝ }
     ensures { λ r. ⌜ Within (now (b .entry)) r
         × ((value : List ℕ) → planned leaf (now (b .entry)) r (now (key .entry)) value
-        ≡ inserted (entry tag (now (key .entry)) value) (entriesOf leaf (now (b .entry)))) ⌝ }
+        ≡ inserted (entryWith tag (now (key .entry)) value) (entriesOf leaf (now (b .entry)))) ⌝ }
 {
     let n = count(b);
     let place = find(b, leaf, n, key);
@@ -77,7 +77,7 @@ pub fn put(
 ) -> Edited
     requires { ⌜ (lentCheckOf p (now b) ≡ Sound) × (isLeaf (now b) ≡ leaf) ⌝ }
     ensures { λ r. ⌜ Edits leaf (idOf (now (b .entry))) p (now (out .entry))
-        (written leaf p (now (out .entry)) (inserted (entry tag (now (key .entry)) (now (value .entry))) (entriesOf leaf (now (b .entry))))) r (now (out .exit)) ⌝ }
+        (written leaf p (now (out .entry)) (inserted (entryWith tag (now (key .entry)) (now (value .entry))) (entriesOf leaf (now (b .entry))))) r (now (out .exit)) ⌝ }
 {
     let page = id(b) as u64;
     let plan = plan_of(b, leaf, tag, key);

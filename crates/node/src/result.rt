@@ -3,9 +3,10 @@ ghost use mathlib.Core.Path.{_≡_};
 ghost use mathlib.Core.Bool.{true};
 ghost use Prim.Native.Nat.{_+_, _<_, _≤_};
 ghost use Rattle.page.specs.PageRules.{SoundBlock};
-ghost use Rattle.pack.specs.Pack.{nodeSize, pagesNeeded};
+ghost use Rattle.field.specs.Sizes.{pagesNeeded};
+ghost use Rattle.pack.specs.Pack.{nodeSize};
 ghost use Rattle.pack.specs.Plan.{fresh, planned, Within};
-ghost use Rattle.size.specs.Size.{nodeLimit, counted, entriesSize};
+ghost use Rattle.size.specs.Size.{nodeLimit, cappedSize, entriesSize};
 ghost use Rattle.node.specs.Edit.{written, Edits};
 use super::edit::Edited;
 use pack::element::element_size;
@@ -19,7 +20,7 @@ use size::add_size;
 // A size with the plan's new entry more, if there is one, counted no further than one past the limit.
 fn add_new(sum: usize, leaf: bool, plan: Plan, key: &[u8], value: &[u8]) -> usize
     requires { ⌜ sum ≤ nodeLimit + 1 ⌝ }
-    ensures { λ r. ⌜ r ≡ counted (sum + entriesSize leaf (fresh plan (now (key .entry)) (now (value .entry)))) ⌝ }
+    ensures { λ r. ⌜ r ≡ cappedSize (sum + entriesSize leaf (fresh plan (now (key .entry)) (now (value .entry)))) ⌝ }
 {
     if plan.some {
         let a = add_size(sum, element_size(leaf));
@@ -33,7 +34,7 @@ fn add_new(sum: usize, leaf: bool, plan: Plan, key: &[u8], value: &[u8]) -> usiz
 fn plan_size(b: &[u8], leaf: bool, plan: Plan, key: &[u8], value: &[u8]) -> usize
     requires { ⌜ SoundBlock leaf true (now b) ⌝ }
     requires { ⌜ Within (now b) plan ⌝ }
-    ensures { λ r. ⌜ r ≡ counted (nodeSize leaf (planned leaf (now (b .entry)) plan (now (key .entry)) (now (value .entry)))) ⌝ }
+    ensures { λ r. ⌜ r ≡ cappedSize (nodeSize leaf (planned leaf (now (b .entry)) plan (now (key .entry)) (now (value .entry)))) ⌝ }
 {
     let front = add_entries(b, leaf, plan.first, plan.stop, NODE_HEADER);
     let middle = add_new(front, leaf, plan, key, value);

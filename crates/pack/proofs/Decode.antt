@@ -11,10 +11,11 @@ use native.Mathlib.Omega.{arith}
 use lib.ListN.{length, getD, take, drop, replicate, length-append}
 use lib.Seq.{take-at, drop-at}
 use Rattle.field.specs.Field.{field, bytesOf}
+use Rattle.field.specs.Sizes.{pagesNeeded}
 use Rattle.field.proofs.FieldLaws.{length-bytes, read-at}
 use Rattle.page.specs.Layout.{Entry, idOf, typeOf, countOf, overflowOf, elementSize, elementAt, tagOf, posOf, keySize, valueSize, keyAt, valueAt, valueEnd, keyOf, valueOf, entryOf, entriesFrom, entriesOf}
-use Rattle.pack.specs.Pack.{nodeSize, contentEnd, pagesNeeded, blockSize, typeNumber, header, element, body, table, bodies, pack}
-use Rattle.pack.specs.Plan.{entry}
+use Rattle.pack.specs.Pack.{nodeSize, contentEnd, blockSize, typeNumber, header, element, body, table, bodies, pack}
+use Rattle.pack.specs.Plan.{entryWith}
 use Rattle.pack.specs.Entries.{Storable, Each}
 use Rattle.pack.proofs.PackLaws.{count-below, length-element, length-header, length-table, node-size, length-pack, one-page, last-page}
 
@@ -86,7 +87,7 @@ read true b pre rest i pos e he hi small storable =
     }
 
 -- ---- an entry, by what stands before its element and before its body
-same-entry : (e : Entry) (tag : ℕ) (key value : List ℕ) → tag ≡ e .tag → key ≡ e .key → value ≡ e .value → entry tag key value ≡ e
+same-entry : (e : Entry) (tag : ℕ) (key value : List ℕ) → tag ≡ e .tag → key ≡ e .key → value ≡ e .value → entryWith tag key value ≡ e
 same-entry e tag key value t k v = rw (t, k, v)
 
 record There (leaf : Bool) (b : List ℕ) (i : ℕ) (e : Entry) (d : ℕ) : Type 0 where

@@ -10,9 +10,10 @@ use lib.ListN.{length, take, drop, replicate, length-append, length-replicate}
 use lib.Seq.{take-at}
 use Rattle.field.specs.Field.{bytesOf}
 use Rattle.field.specs.Run.{putAt}
+use Rattle.field.specs.Sizes.{pagesNeeded}
 use Rattle.field.proofs.RunLaws.{put-then, put-front, put-start}
 use Rattle.page.specs.Layout.{Entry, elementSize, elementAt}
-use Rattle.pack.specs.Pack.{nodeSize, contentEnd, pagesNeeded, blockSize, header, element, body, table, bodies, pack}
+use Rattle.pack.specs.Pack.{nodeSize, contentEnd, blockSize, header, element, body, table, bodies, pack}
 
 -- ---- lengths
 -- an element takes a byte and more

@@ -14,12 +14,12 @@ use borrow.Author.Tests.{le-leb, eq-eqb}
 use Rattle.field.specs.declared.order.Order.the-variants.{Lower}
 use Rattle.field.specs.Order.{orderOf}
 use Rattle.field.proofs.FieldLaws.{Bytes, field-fits}
-use Rattle.field.specs.Sizes.{sizeAllowed}
+use Rattle.field.specs.Sizes.{sizeAllowed, pagesNeeded}
 use Rattle.page.specs.declared.rules.Verdict.the-variants.{Sound}
 use Rattle.page.specs.Layout.{Entry, countOf, isLeaf, elementAt, tableEnd, valueSize, valueEnd, keyOf, valueOf, entryOf, entriesFrom}
 use Rattle.page.specs.PageRules.{headerBad, kindBad, kindBadAt, SoundBlock, checkOf, lentCheckOf, lengthBad, lentHeaderBad}
 use Rattle.page.proofs.RuleLaws.{header-iff, kind-iff, sound-check}
-use Rattle.pack.specs.Pack.{nodeSize, pagesNeeded, typeNumber, pack}
+use Rattle.pack.specs.Pack.{nodeSize, typeNumber, pack}
 use Rattle.pack.specs.Entries.{Storable, Good, Each, RisingEntries}
 use Rattle.pack.proofs.PackLaws.{node-size, length-pack, covers, one-page}
 use Rattle.pack.proofs.Decode.{id-packed, overflow-packed, type-packed, count-packed, length-packed, packed-run}

@@ -7,27 +7,28 @@ use Prim.Native.Nat.{ℕ, _+_, _-_, _*_, _≤_, _<_}
 use native.Mathlib.Nat.{mul-add, mul-zero}
 use native.Mathlib.Omega.{arith}
 use lib.ListN.{length, take, drop, replicate, length-append}
-use Rattle.field.specs.Field.{field}
+use Rattle.field.specs.Field.{field, flagOf}
 use Rattle.field.specs.Run.{putAt}
+use Rattle.field.specs.Sizes.{pagesNeeded}
 use Rattle.page.specs.Layout.{Entry, elementSize, elementAt, countOf, entriesOf}
 use Rattle.page.specs.PageRules.{SoundBlock}
 use Rattle.page.proofs.EntryLaws.{length-from}
-use Rattle.pack.specs.Pack.{nodeSize, pagesNeeded, blockSize, element, table, bodies, pack}
+use Rattle.pack.specs.Pack.{nodeSize, blockSize, element, table, bodies, pack}
 use Rattle.pack.specs.declared.write.Plan.{Plan}
-use Rattle.pack.specs.Plan.{entry, range, maybe, fresh, planned, one, countIn, insertAt, replaceAt, removeAt, cutOf}
+use Rattle.pack.specs.Plan.{entryWith, range, maybe, fresh, planned, countIn, insertAt, replaceAt, removeAt, cutOf}
 use Rattle.pack.proofs.PackLaws.{count-below, node-size, length-bodies-append, table-then, bodies-then, covers, one-page}
 use Rattle.pack.proofs.RangeLaws.{range-part, range-first, range-last, range-end}
 
 -- ---- the new entry, or none
 module _ (p : Plan) (key value : List ℕ) where
-  fresh-length : length (fresh p key value) ≡ one (p .some)
+  fresh-length : length (fresh p key value) ≡ flagOf (p .some)
   fresh-length = go (p .some)
     where
-      go : (s : Bool) → length (maybe s (entry (p .tag) key value)) ≡ one s
+      go : (s : Bool) → length (maybe s (entryWith (p .tag) key value)) ≡ flagOf s
       go true = refl
       go false = refl
 
-  pub some-table : (leaf : Bool) (at d : ℕ) → p .some ≡ true → table leaf at d (fresh p key value) ≡ element leaf (d - at) (entry (p .tag) key value)
+  pub some-table : (leaf : Bool) (at d : ℕ) → p .some ≡ true → table leaf at d (fresh p key value) ≡ element leaf (d - at) (entryWith (p .tag) key value)
   unfolding table
   some-table leaf at d h = rw (h, append-nil)
 
@@ -48,8 +49,8 @@ module _ (p : Plan) (key value : List ℕ) where
 
 -- ---- a plan
 pub table-parts : (leaf : Bool) (p : Plan)
-    → elementSize leaf * countIn p ≡ elementSize leaf * (p .stop - p .first) + elementSize leaf * one (p .some) + elementSize leaf * (p .last - p .resume)
-table-parts leaf p = rw (mul-add (elementSize leaf) (p .stop - p .first + one (p .some)) (p .last - p .resume), mul-add (elementSize leaf) (p .stop - p .first) (one (p .some)))
+    → elementSize leaf * countIn p ≡ elementSize leaf * (p .stop - p .first) + elementSize leaf * flagOf (p .some) + elementSize leaf * (p .last - p .resume)
+table-parts leaf p = rw (mul-add (elementSize leaf) (p .stop - p .first + flagOf (p .some)) (p .last - p .resume), mul-add (elementSize leaf) (p .stop - p .first) (flagOf (p .some)))
 
 module _ (leaf : Bool) (b : List ℕ) (p : Plan) (key value : List ℕ) where
   abbrev xs : List Entry
@@ -85,14 +86,14 @@ module _ (leaf : Bool) (b : List ℕ) (p : Plan) (key value : List ℕ) where
 
   -- what the three writers of the table, and of the bodies, leave
   pub planned-table : {o₁ o₂ o₃ : List ℕ} (o : List ℕ) (w₁ w₂ d e₁ e₂ : ℕ)
-      → w₁ ≡ elementAt leaf (p .stop - p .first) → w₂ ≡ elementAt leaf (p .stop - p .first + one (p .some)) → w₁ ≤ length o → w₂ ≤ length o
+      → w₁ ≡ elementAt leaf (p .stop - p .first) → w₂ ≡ elementAt leaf (p .stop - p .first + flagOf (p .some)) → w₁ ≤ length o → w₂ ≤ length o
       → e₁ ≡ d + length (bodies xs) → e₂ ≡ e₁ + length (bodies ys)
       → o₁ ≡ putAt o 32 (table leaf 32 d xs) → o₂ ≡ putAt o₁ w₁ (table leaf w₁ e₁ ys) → o₃ ≡ putAt o₂ w₂ (table leaf w₂ e₂ zs)
       → o₃ ≡ putAt o 32 (table leaf 32 d (planned leaf b p key value))
   unfolding planned
   planned-table o w₁ w₂ d e₁ e₂ hw₁ hw₂ h₁ h₂ he₁ he₂ q r s =
       let x : elementAt leaf (length xs) ≡ w₁ = ap (elementAt leaf) (length-from leaf b (p .stop - p .first) (p .first)) ∙ sym hw₁ in
-      let l : length (xs ++ ys) ≡ p .stop - p .first + one (p .some) =
+      let l : length (xs ++ ys) ≡ p .stop - p .first + flagOf (p .some) =
       omega (arith, length-append xs ys, length-from leaf b (p .stop - p .first) (p .first), fresh-length p key value) in
       let xy : elementAt leaf (length (xs ++ ys)) ≡ w₂ = ap (elementAt leaf) l ∙ sym hw₂ in
       let m = length-bodies-append xs ys in
@@ -110,18 +111,18 @@ module _ (leaf : Bool) (b : List ℕ) (p : Plan) (key value : List ℕ) where
 -- ---- the plans of an insertion, of a replacement, of a removal, of a cut, and of a block with no source
 module _ (leaf : Bool) (b : List ℕ) (i tag n : ℕ) (key value : List ℕ) (hn : n ≡ countOf b) where
   pub plan-insert : i ≤ n → planned leaf b (record { first = 0; stop = i; some = true; tag = tag; resume = i; last = n }) key value
-      ≡ insertAt i (entry tag key value) (entriesOf leaf b)
+      ≡ insertAt i (entryWith tag key value) (entriesOf leaf b)
   unfolding planned
   plan-insert h =
       rw (hn, range-first leaf b i (omega arith), range-last leaf b i (omega arith))
-      (append-assoc (take i (entriesOf leaf b)) (entry tag key value ∷ []) (drop i (entriesOf leaf b)))
+      (append-assoc (take i (entriesOf leaf b)) (entryWith tag key value ∷ []) (drop i (entriesOf leaf b)))
 
   pub plan-replace : i < n → planned leaf b (record { first = 0; stop = i; some = true; tag = tag; resume = i + 1; last = n }) key value
-      ≡ replaceAt i (entry tag key value) (entriesOf leaf b)
+      ≡ replaceAt i (entryWith tag key value) (entriesOf leaf b)
   unfolding planned
   plan-replace h =
       rw (hn, range-first leaf b i (omega arith), range-last leaf b (i + 1) (omega arith))
-      (append-assoc (take i (entriesOf leaf b)) (entry tag key value ∷ []) (drop (i + 1) (entriesOf leaf b)))
+      (append-assoc (take i (entriesOf leaf b)) (entryWith tag key value ∷ []) (drop (i + 1) (entriesOf leaf b)))
 
   pub plan-remove : i < n → planned leaf b (record { first = 0; stop = i; some = false; tag = tag; resume = i + 1; last = n }) key value
       ≡ removeAt i (entriesOf leaf b)
@@ -134,7 +135,7 @@ unfolding planned
 plan-cut leaf b i j tag key value h k = rw (range-end leaf b j j (omega arith), append-nil, append-nil) (range-part leaf b i j h k)
 
 pub plan-new : (leaf : Bool) (b : List ℕ) (some : Bool) (tag : ℕ) (key value : List ℕ)
-    → planned leaf b (record { first = 0; stop = 0; some = some; tag = tag; resume = 0; last = 0 }) key value ≡ maybe some (entry tag key value)
+    → planned leaf b (record { first = 0; stop = 0; some = some; tag = tag; resume = 0; last = 0 }) key value ≡ maybe some (entryWith tag key value)
 unfolding planned
 plan-new leaf b some tag key value = rw (range-end leaf b 0 0 (omega arith), append-nil)
 

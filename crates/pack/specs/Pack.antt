@@ -2,9 +2,10 @@
 -- Assumes nothing.
 use mathlib.Core.Bool.{Bool, true, false}
 use mathlib.Core.List.{List, [], _∷_, _++_}
-use Prim.Native.Nat.{ℕ, _+_, _-_, _*_, _/_}
+use Prim.Native.Nat.{ℕ, _+_, _-_, _*_}
 use lib.ListN.{length, replicate}
 use Rattle.field.specs.Field.{bytesOf}
+use Rattle.field.specs.Sizes.{pagesNeeded}
 use Rattle.page.specs.Layout.{Entry, elementSize, elementAt}
 
 -- ---- sizes: 40 plus, for each entry, its element and its key and value bytes
@@ -18,10 +19,6 @@ nodeSize leaf (e ∷ es) = entrySize leaf e + nodeSize leaf es
 -- the content ends 8 bytes earlier
 abbrev pub contentEnd : Bool → List Entry → ℕ
 contentEnd leaf es = nodeSize leaf es - 8
-
--- pages needed: a size over P, rounded up
-abbrev pub pagesNeeded : ℕ → ℕ → ℕ
-pagesNeeded size P = (size + (P - 1)) / P
 
 abbrev pub blockSize : Bool → List Entry → ℕ → ℕ
 blockSize leaf es P = pagesNeeded (nodeSize leaf es) P * P

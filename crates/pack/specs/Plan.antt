@@ -4,11 +4,13 @@ use mathlib.Core.Bool.{Bool, true, false}
 use mathlib.Core.List.{List, [], _∷_, _++_}
 use Prim.Native.Nat.{ℕ, _+_, _-_, _≤_}
 use lib.ListN.{take, drop}
+use Rattle.field.specs.Field.{flagOf}
 use Rattle.page.specs.Layout.{Entry, countOf, entriesFrom}
 use Rattle.pack.specs.declared.write.Plan.{Plan}
 
-abbrev pub entry : ℕ → List ℕ → List ℕ → Entry
-entry tag key value = record { tag = tag; key = key; value = value }
+-- the entry of these parts
+abbrev pub entryWith : ℕ → List ℕ → List ℕ → Entry
+entryWith tag key value = record { tag = tag; key = key; value = value }
 
 -- the block's entries from i up to j
 abbrev pub range : Bool → List ℕ → ℕ → ℕ → List Entry
@@ -20,19 +22,15 @@ maybe false e = []
 
 -- the new entry, or none
 abbrev pub fresh : Plan → List ℕ → List ℕ → List Entry
-fresh p key value = maybe (p .some) (entry (p .tag) key value)
+fresh p key value = maybe (p .some) (entryWith (p .tag) key value)
 
 unfoldable pub planned : Bool → List ℕ → Plan → List ℕ → List ℕ → List Entry
 planned leaf b p key value =
     range leaf b (p .first) (p .stop) ++ fresh p key value ++ range leaf b (p .resume) (p .last)
 
 -- how many entries those are
-abbrev pub one : Bool → ℕ
-one true = 1
-one false = 0
-
 abbrev pub countIn : Plan → ℕ
-countIn p = p .stop - p .first + one (p .some) + (p .last - p .resume)
+countIn p = p .stop - p .first + flagOf (p .some) + (p .last - p .resume)
 
 -- the plan's ranges lie within the block
 pub record Within (b : List ℕ) (p : Plan) : Type 0 where

@@ -7,8 +7,9 @@ ghost use Rattle.field.specs.Field.{bytesOf};
 ghost use Rattle.field.specs.Run.{putAt};
 ghost use Rattle.page.specs.Layout.{elementSize, elementAt, tagOf, valueSize, valueEnd, valueOf};
 ghost use Rattle.pack.specs.Pack.{element};
-ghost use Rattle.pack.specs.Plan.{entry};
+ghost use Rattle.pack.specs.Plan.{entryWith};
 use field::number::put_u64;
+use field::number::wide;
 use field::run::copy;
 use page::layout::BRANCH_SIZE;
 use page::layout::HEADER_SIZE;
@@ -38,13 +39,6 @@ pub fn element_at(leaf: bool, i: usize) -> usize
         return HEADER_SIZE + LEAF_SIZE * i;
     }
     HEADER_SIZE + BRANCH_SIZE * i
-}
-
-// A byte as a u64.
-fn wide(x: u8) -> u64
-    ensures { λ r. ⌜ r ≡ x ⌝ }
-{
-    x as u64
 }
 
 // The kind of a leaf's entry `i`, or the page of a branch's.
@@ -113,7 +107,7 @@ pub fn put_element(
 ) -> usize
     requires { ⌜ (at + elementSize leaf ≤ d) × (d + (length (now key) + length (now value)) ≤ length (now out)) ⌝ }
     ensures { λ r. ⌜ (r ≡ d + (length (now (key .entry)) + length (now (value .entry))))
-        × (now (out .exit) ≡ putAt (now (out .entry)) at (element leaf (d - at) (entry tag (now (key .entry)) (now (value .entry))))) ⌝ }
+        × (now (out .exit) ≡ putAt (now (out .entry)) at (element leaf (d - at) (entryWith tag (now (key .entry)) (now (value .entry))))) ⌝ }
 {
     let pos = d - at;
     let end = d + (key.len() + value.len());

@@ -5,10 +5,11 @@ ghost use mathlib.Core.List.{_++_};
 ghost use Prim.Native.Nat.{_+_, _-_, _*_, _<_, _≤_};
 ghost use lib.ListN.{length, drop};
 ghost use Rattle.field.specs.Run.{putAt};
+ghost use Rattle.field.specs.Field.{flagOf};
 ghost use Rattle.page.specs.Layout.{countOf, elementSize, elementAt, entryOf};
 ghost use Rattle.page.specs.PageRules.{SoundBlock};
 ghost use Rattle.pack.specs.Pack.{blockSize, typeNumber, header, element, body, table, bodies, pack};
-ghost use Rattle.pack.specs.Plan.{range, fresh, planned, one, countIn, Within};
+ghost use Rattle.pack.specs.Plan.{range, fresh, planned, countIn, Within};
 use super::element::element_at;
 use super::element::element_size;
 use super::element::put_body;
@@ -103,7 +104,7 @@ fn copy_bodies(block: &[u8], leaf: bool, from: usize, to: usize, out: &mut [u8],
 
 // One if there is a new entry, else none.
 fn count_one(some: bool) -> usize
-    ensures { λ r. ⌜ r ≡ one some ⌝ }
+    ensures { λ r. ⌜ r ≡ flagOf some ⌝ }
 {
     if some {
         return 1;
@@ -121,7 +122,7 @@ fn put_new(
     at: usize,
     d: usize,
 ) -> usize
-    requires { ⌜ (at + elementSize leaf * one (plan .some) ≤ d) × (d + length (bodies (fresh plan (now key) (now value))) ≤ length (now out)) ⌝ }
+    requires { ⌜ (at + elementSize leaf * flagOf (plan .some) ≤ d) × (d + length (bodies (fresh plan (now key) (now value))) ≤ length (now out)) ⌝ }
     ensures { λ r. ⌜ (r ≡ d + length (bodies (fresh plan (now (key .entry)) (now (value .entry)))))
         × (now (out .exit) ≡ putAt (now (out .entry)) at (table leaf at d (fresh plan (now (key .entry)) (now (value .entry))))) ⌝ }
 {

@@ -12,12 +12,13 @@ use lib.Dec.{ltb, eqb}
 use lib.ListN.{length}
 use borrow.Author.Tests.{le-ltb, ltb-false, lt-leb, leb-false, eq-eqb, ne-eqb, eqb-true, not-false}
 use Rattle.field.specs.declared.order.Order.{Order}
-use Rattle.field.specs.declared.order.Order.the-variants.{Lower, Equal, Higher}
-use Rattle.field.specs.Order.{orderOf}
+use Rattle.field.specs.declared.order.Order.the-variants.{Lower}
+use Rattle.field.specs.Order.{orderOf, isLower}
+use Rattle.field.proofs.OrderLaws.{is-lower}
 use Rattle.page.specs.declared.rules.Verdict.{Verdict}
 use Rattle.page.specs.declared.rules.Verdict.the-variants.{Sound, Breach}
 use Rattle.page.specs.Layout.{idOf, overflowOf, isBranch, countOf, elementSize, elementAt, posOf, keySize, valueSize, tableEnd, isLeaf, keyAt, valueAt, valueEnd, keyOf}
-use Rattle.page.specs.PageRules.{headerBad, andThen, breachIf, firstBad, outside, tableBad, elementBad, keyBad, kindBad, kindBadAt, isLower, checkOf, SoundBlock}
+use Rattle.page.specs.PageRules.{headerBad, andThen, breachIf, firstBad, outside, tableBad, elementBad, keyBad, kindBad, kindBadAt, checkOf, SoundBlock}
 use Rattle.page.proofs.TestLaws.{ltb-same, and-both, or-neither}
 
 -- ---- the first bad element, from i on and below n
@@ -121,11 +122,6 @@ pub breachIf-sound : (bad : Bool) (number : ℕ) (v : Verdict) → breachIf bad 
 breachIf-sound true number v e = absurd (let z : _≡_ {A = ℕ} 0 1 = cc in omega arith)
 breachIf-sound false number v e = (refl, e)
 
-not-lower : (o : Order) → not (isLower o) ≡ false → o ≡ Lower
-not-lower Lower e = refl
-not-lower Equal e = absurd (let z : _≡_ {A = ℕ} 0 1 = cc in omega arith)
-not-lower Higher e = absurd (let z : _≡_ {A = ℕ} 0 1 = cc in omega arith)
-
 -- ---- a check answers Sound for the sound blocks alone
 module _ (leaf emptyOk : Bool) (b : List ℕ) where
   pub table-good : tableBad leaf emptyOk b ≡ false → (countOf b ≡ 0 → emptyOk ≡ true) × (tableEnd leaf b ≤ length b)
@@ -171,7 +167,7 @@ module _ (leaf emptyOk : Bool) (b : List ℕ) where
         kinds = λ i l. good i l .2;
         rising = λ i l.
             let same : i + 1 - 1 ≡ i = omega arith in
-            let o : orderOf (keyOf leaf b (i + 1 - 1)) (keyOf leaf b (i + 1)) ≡ Lower = not-lower _ (bad-none-at (keyBad leaf b) 6 (countOf b - 1) 1 (rest .1) (i + 1) (omega arith) (omega arith)) in
+            let o : orderOf (keyOf leaf b (i + 1 - 1)) (keyOf leaf b (i + 1)) ≡ Lower = is-lower _ (not-false _ (bad-none-at (keyBad leaf b) 6 (countOf b - 1) 1 (rest .1) (i + 1) (omega arith) (omega arith))) in
             rw same at o;
       }
 

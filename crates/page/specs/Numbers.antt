@@ -1,10 +1,8 @@
 -- 01, "Numbers given back": the number and the values of each answer on a lent single block, whose faults name page 0.
 -- Assumes nothing.
-use mathlib.Core.Bool.{Bool, true, false}
 use mathlib.Core.List.{List, [], _∷_}
 use Prim.Native.Nat.{ℕ}
-use Rattle.page.specs.declared.rules.Verdict.{Verdict}
-use Rattle.page.specs.declared.rules.Verdict.the-variants as verdict
+use Rattle.field.specs.Field.{flagOf}
 use Rattle.page.specs.declared.search.Indexed.{Indexed}
 use Rattle.page.specs.declared.search.Indexed.the-variants as indexed
 use Rattle.page.specs.declared.search.Child.{Child}
@@ -12,18 +10,9 @@ use Rattle.page.specs.declared.search.Child.the-variants as child
 use Rattle.page.specs.declared.search.Held.{Held}
 use Rattle.page.specs.declared.search.Held.the-variants as held
 
-abbrev pub one : Bool → ℕ
-one true = 1
-one false = 0
-
--- a check: number, page, element
-abbrev pub verdictFields : Verdict → List ℕ
-verdictFields verdict.Sound = 0 ∷ 0 ∷ 0 ∷ []
-verdictFields (verdict.Breach number element) = number ∷ 0 ∷ element ∷ []
-
 -- `index`: number, index, found, page, element
 abbrev pub indexedFields : Indexed → List ℕ
-indexedFields (indexed.At p) = 0 ∷ p .at ∷ one (p .found) ∷ 0 ∷ 0 ∷ []
+indexedFields (indexed.At p) = 0 ∷ p .at ∷ flagOf (p .found) ∷ 0 ∷ 0 ∷ []
 indexedFields (indexed.Refused number element) = number ∷ 0 ∷ 0 ∷ 0 ∷ element ∷ []
 
 -- `index_page`: number, page number, page, element

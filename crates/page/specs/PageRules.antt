@@ -6,9 +6,8 @@ use mathlib.Core.List.{List}
 use Prim.Native.Nat.{ℕ, zero, suc, _+_, _-_, _*_, _%_, _≤_, _<_}
 use lib.Dec.{leb, ltb, eqb}
 use lib.ListN.{length, take, drop}
-use Rattle.field.specs.declared.order.Order.{Order}
-use Rattle.field.specs.declared.order.Order.the-variants.{Lower, Equal, Higher}
-use Rattle.field.specs.Order.{orderOf}
+use Rattle.field.specs.declared.order.Order.the-variants.{Lower}
+use Rattle.field.specs.Order.{orderOf, isLower}
 use Rattle.field.specs.Sizes.{sizeAllowed}
 use Rattle.page.specs.declared.rules.Verdict.{Verdict}
 use Rattle.page.specs.declared.rules.Verdict.the-variants.{Sound, Breach}
@@ -20,6 +19,11 @@ use Rattle.page.specs.Layout.{idOf, countOf, overflowOf, isBranch, isLea
 abbrev pub andThen : Verdict → Verdict → Verdict
 andThen Sound v = v
 andThen (Breach number element) v = Breach number element
+
+-- an answer after a check: a breach refuses with its number and element, and else the answer stands
+abbrev pub afterCheck : {A : Type 0} → Verdict → (ℕ → ℕ → A) → A → A
+afterCheck Sound refused answer = answer
+afterCheck (Breach number element) refused answer = refused number element
 
 -- a breach that names no element, where there is one
 abbrev pub breachIf : Bool → ℕ → Verdict → Verdict
@@ -59,11 +63,6 @@ unfoldable pub elementBad : Bool → List ℕ → ℕ → Bool
 elementBad leaf b i = outside (tableEnd leaf b) (length b) (keyAt leaf b i) (valueEnd leaf b i) || kindBadAt leaf b i
 
 -- ---- rule 7: a key not above the one before it
-abbrev pub isLower : Order → Bool
-isLower Lower = true
-isLower Equal = false
-isLower Higher = false
-
 unfoldable pub keyBad : Bool → List ℕ → ℕ → Bool
 keyBad leaf b i = not (isLower (orderOf (keyOf leaf b (i - 1)) (keyOf leaf b i)))
 

@@ -7,8 +7,6 @@ use lib.Dec.{ltb}
 use Rattle.field.specs.declared.order.Order.{Order}
 use Rattle.field.specs.declared.order.Order.the-variants.{Lower, Equal, Higher}
 use Rattle.field.specs.Order.{orderOf}
-use Rattle.page.specs.declared.rules.Verdict.{Verdict}
-use Rattle.page.specs.declared.rules.Verdict.the-variants.{Sound, Breach}
 use Rattle.page.specs.declared.search.Place.{Place}
 use Rattle.page.specs.declared.search.Indexed.{Indexed}
 use Rattle.page.specs.declared.search.Indexed.the-variants as indexed
@@ -18,7 +16,7 @@ use Rattle.page.specs.declared.search.Leaf.{Leaf}
 use Rattle.page.specs.declared.search.Held.{Held}
 use Rattle.page.specs.declared.search.Held.the-variants as held
 use Rattle.page.specs.Layout.{countOf, isLeaf, kindOf, pageOf, keyAt, valueAt, valueEnd, keyOf}
-use Rattle.page.specs.PageRules.{lentCheckOf}
+use Rattle.page.specs.PageRules.{afterCheck, lentCheckOf}
 
 -- the answer at element i, whose key stands so to the one that is looked for: present at i; absent, with i the insertion place, so that
 -- the place before it is told, never below 0; or what the rest of the scan says
@@ -36,32 +34,21 @@ unfoldable pub placeOf : Bool → List ℕ → List ℕ → Place
 placeOf leaf b key = scanFrom leaf b key (countOf b) 0
 
 -- `index` of a lent block
-abbrev pub orRefused : Verdict → Indexed → Indexed
-orRefused Sound a = a
-orRefused (Breach number element) a = indexed.Refused number element
-
 unfoldable pub indexOf : ℕ → List ℕ → List ℕ → Indexed
-indexOf P b key = orRefused (lentCheckOf P b) (indexed.At (placeOf (isLeaf b) b key))
+indexOf P b key = afterCheck (lentCheckOf P b) indexed.Refused (indexed.At (placeOf (isLeaf b) b key))
 
 -- `index_page` of a lent block: past the end page 0, for a leaf too; otherwise a leaf is 11
-abbrev pub orNoChild : Verdict → Child → Child
-orNoChild Sound a = a
-orNoChild (Breach number element) a = child.Refused number element
-
 unfoldable pub indexPageOf : ℕ → List ℕ → ℕ → Child
 indexPageOf P b i =
-    orNoChild (lentCheckOf P b)
+    afterCheck (lentCheckOf P b) child.Refused
     (cond (ltb i (countOf b)) (cond (isLeaf b) (child.Refused 11 0) (child.Page (pageOf b i))) (child.Page 0))
 
--- `entry` of a lent block, the crate's `val`: a branch is 11; past the end nothing; otherwise the entry's kind and where its key and value lie
-abbrev pub orNotHeld : Verdict → Held → Held
-orNotHeld Sound a = a
-orNotHeld (Breach number element) a = held.Refused number element
-
+-- the entry's kind and where its key and value lie
 abbrev pub leafOf : List ℕ → ℕ → Leaf
 leafOf b i = record { kind = kindOf b i; key = keyAt true b i; value = valueAt true b i; end = valueEnd true b i }
 
+-- `entry` of a lent block, the crate's `val`: a branch is 11; past the end nothing; otherwise the entry
 unfoldable pub heldOf : ℕ → List ℕ → ℕ → Held
 heldOf P b i =
-    orNotHeld (lentCheckOf P b)
+    afterCheck (lentCheckOf P b) held.Refused
     (cond (isLeaf b) (cond (ltb i (countOf b)) (held.Here (leafOf b i)) held.Nothing) (held.Refused 11 0))

@@ -10,8 +10,9 @@ ghost use Rattle.node.specs.Measure.{sizeOf, needsMergingOf};
 ghost use Rattle.node.specs.Edit.{output, newLeafOf, newBranchOf, insertOf, deleteOf, deletedAnswer, insertBranchOf};
 ghost use Rattle.node.specs.Edit.{answer as editedOf};
 ghost use Rattle.probe.specs.Probe.{Ordered};
-use super::search::bit;
 use answer::give;
+use field::number::flag;
+use field::number::wide;
 use node::Deleted;
 use node::Edited;
 use node::Measure;
@@ -28,13 +29,6 @@ use node::measure::size;
 const EDITED_FIELDS: usize = 3;
 
 const DELETED_FIELDS: usize = 8;
-
-// A byte as a u64.
-fn wide(x: u8) -> u64
-    ensures { λ r. ⌜ r ≡ x ⌝ }
-{
-    x as u64
-}
 
 // The number of a refused size, whose fields are 0 but the element.
 fn tell_unsized(answer: &mut [u8], number: u64, element: usize) -> u64
@@ -55,7 +49,7 @@ fn tell_sized(answer: &mut [u8], measure: Measure, merging: Merging) -> u64
         Measure::Bytes(bytes, pages) => match merging {
             Merging::Refused(number, element) => tell_unsized(answer, number, element),
             Merging::Wanted(wanted) => {
-                let values = [bytes as u64, pages as u64, bit(wanted), 0, 0];
+                let values = [bytes as u64, pages as u64, flag(wanted), 0, 0];
                 give(answer, 0, &values)
             }
         },

@@ -1,7 +1,7 @@
 // The calls on a lent freelist table. Those without fields need no room in the answer buffer, which stays.
 ghost use mathlib.Core.Path.{_≡_};
 ghost use Rattle.answer.specs.Answer.{toldNumber, toldAnswer, lentWith};
-ghost use Rattle.freelist.specs.Answers.{onDone, numberOf, allocatedFields, listedFields, measuredFields};
+ghost use Rattle.freelist.specs.Answers.{onDone, answerNumber, allocatedFields, listedFields, measuredFields};
 ghost use Rattle.freelist.specs.Freelist.{faultOf, newNumber, newTable, initNumber, initTable, freeNumber, freeTable, releaseTable, allocateNumber, allocateAnswer, allocateTable, pagesNumber, pagesAnswer, pagesList, sizeAnswer};
 use answer::give;
 use freelist::Allocated;
@@ -18,7 +18,7 @@ use freelist::size;
 
 // The number of an answer without fields.
 fn number_of(a: Answer) -> u64
-    ensures { λ r. ⌜ r ≡ numberOf a ⌝ }
+    ensures { λ r. ⌜ r ≡ answerNumber a ⌝ }
 {
     match a {
         Answer::Done => 0,

@@ -3,7 +3,7 @@ ghost use mathlib.Core.Path.{_≡_};
 ghost use mathlib.Core.List.{[], _∷_};
 ghost use Rattle.answer.specs.Answer.{toldNumber, toldAnswer, lentWith};
 ghost use Rattle.meta.specs.Fnv.{fnv1aOf};
-ghost use Rattle.meta.specs.Meta.{metaOf, readOf, writeOf, writtenOf, readFields, writtenFields};
+ghost use Rattle.meta.specs.Meta.{metaOf, readOf, writeOf, pageLeft, metaReadFields, metaWrittenFields};
 use answer::give;
 use meta::Meta;
 use meta::MetaRead;
@@ -14,8 +14,8 @@ use meta::write_meta;
 
 // The number of a meta that was read, whose ten fields stand in `answer` in their order.
 fn tell_read(answer: &mut [u8], a: MetaRead) -> u64
-    ensures { λ r. ⌜ (r ≡ toldNumber (readFields a) (now (answer .entry)))
-        × (now (answer .exit) ≡ toldAnswer (readFields a) (now (answer .entry))) ⌝ }
+    ensures { λ r. ⌜ (r ≡ toldNumber (metaReadFields a) (now (answer .entry)))
+        × (now (answer .exit) ≡ toldAnswer (metaReadFields a) (now (answer .entry))) ⌝ }
 {
     match a {
         MetaRead::Read(m) => {
@@ -42,8 +42,8 @@ fn tell_read(answer: &mut [u8], a: MetaRead) -> u64
 
 // The number of a meta that was written, whose hash stands in `answer`.
 fn tell_written(answer: &mut [u8], a: MetaWritten) -> u64
-    ensures { λ r. ⌜ (r ≡ toldNumber (writtenFields a) (now (answer .entry)))
-        × (now (answer .exit) ≡ toldAnswer (writtenFields a) (now (answer .entry))) ⌝ }
+    ensures { λ r. ⌜ (r ≡ toldNumber (metaWrittenFields a) (now (answer .entry)))
+        × (now (answer .exit) ≡ toldAnswer (metaWrittenFields a) (now (answer .entry))) ⌝ }
 {
     match a {
         MetaWritten::Written(hash) => {
@@ -60,8 +60,8 @@ fn tell_written(answer: &mut [u8], a: MetaWritten) -> u64
 // The number of the page's meta, with its ten fields.
 #[no_mangle]
 pub extern "C" fn tyvarmos_meta_read(page: &[u8], answer: &mut [u8]) -> u64
-    ensures { λ r. ⌜ (r ≡ toldNumber (readFields (readOf (now (page .entry)))) (now (answer .entry)))
-        × (now (answer .exit) ≡ toldAnswer (readFields (readOf (now (page .entry)))) (now (answer .entry))) ⌝ }
+    ensures { λ r. ⌜ (r ≡ toldNumber (metaReadFields (readOf (now (page .entry)))) (now (answer .entry)))
+        × (now (answer .exit) ≡ toldAnswer (metaReadFields (readOf (now (page .entry)))) (now (answer .entry))) ⌝ }
 {
     tell_read(answer, read_meta(page))
 }
@@ -81,10 +81,10 @@ pub extern "C" fn tyvarmos_meta_write(
     tx_id: u64,
     answer: &mut [u8],
 ) -> u64
-    ensures { λ r. ⌜ (r ≡ toldNumber (writtenFields (writeOf (now (page .entry)) (metaOf «meta_page» magic version pagesize «root_page» «next_int» «num_pages» «freelist_page» «tx_id»))) (now (answer .entry)))
-        × (now (answer .exit) ≡ toldAnswer (writtenFields (writeOf (now (page .entry)) (metaOf «meta_page» magic version pagesize «root_page» «next_int» «num_pages» «freelist_page» «tx_id»))) (now (answer .entry)))
+    ensures { λ r. ⌜ (r ≡ toldNumber (metaWrittenFields (writeOf (now (page .entry)) (metaOf «meta_page» magic version pagesize «root_page» «next_int» «num_pages» «freelist_page» «tx_id»))) (now (answer .entry)))
+        × (now (answer .exit) ≡ toldAnswer (metaWrittenFields (writeOf (now (page .entry)) (metaOf «meta_page» magic version pagesize «root_page» «next_int» «num_pages» «freelist_page» «tx_id»))) (now (answer .entry)))
         × (now (page .exit) ≡ lentWith 1 (now (answer .entry)) (now (page .entry))
-        (writtenOf (now (page .entry)) (metaOf «meta_page» magic version pagesize «root_page» «next_int» «num_pages» «freelist_page» «tx_id»))) ⌝ }
+        (pageLeft (now (page .entry)) (metaOf «meta_page» magic version pagesize «root_page» «next_int» «num_pages» «freelist_page» «tx_id»))) ⌝ }
 {
     if answer.len() / 8 < 1 {
         return 1;

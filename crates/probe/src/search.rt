@@ -1,23 +1,14 @@
 // The search of a block, as C functions.
 ghost use mathlib.Core.Path.{_≡_};
 ghost use Rattle.answer.specs.Answer.{toldNumber, toldAnswer};
-ghost use Rattle.page.specs.Numbers.{one, indexedFields, childFields};
+ghost use Rattle.page.specs.Numbers.{indexedFields, childFields};
 ghost use Rattle.page.specs.Search.{indexOf, indexPageOf};
 use answer::give;
+use field::number::flag;
 use page::Child;
 use page::Indexed;
 use page::search::index;
 use page::search::index_page;
-
-// A yes as 1, a no as 0.
-pub fn bit(x: bool) -> u64
-    ensures { λ r. ⌜ r ≡ one x ⌝ }
-{
-    if x {
-        return 1;
-    }
-    0
-}
 
 // The number of `index`'s answer, whose fields stand in `answer`: index, found, page, element.
 #[no_mangle]
@@ -27,7 +18,7 @@ pub extern "C" fn tyvarmos_index(block: &[u8], p: usize, key: &[u8], answer: &mu
 {
     match index(block, p, key) {
         Indexed::At(place) => {
-            let values = [place.at as u64, bit(place.found), 0, 0];
+            let values = [place.at as u64, flag(place.found), 0, 0];
             give(answer, 0, &values)
         }
         Indexed::Refused(number, element) => {

@@ -14,7 +14,7 @@ use Rattle.page.proofs.LayoutLaws.{element-in}
 use Rattle.pack.specs.Pack.{entrySize, nodeSize}
 use Rattle.pack.specs.Plan.{range}
 use Rattle.pack.proofs.RangeLaws.{range-next, range-end}
-use Rattle.size.specs.Size.{nodeLimit, counted, entriesSize}
+use Rattle.size.specs.Size.{nodeLimit, cappedSize, entriesSize}
 
 -- ---- one entry
 module _ (leaf : Bool) (b : List ℕ) (i : ℕ) (h : valueEnd leaf b i ≤ length b) where
@@ -69,28 +69,28 @@ pub size-entries : (leaf : Bool) (es : List Entry) → 40 + entriesSize leaf es 
 size-entries leaf es = let m = size-least leaf es in omega arith
 
 -- ---- the count stops one past the limit
-pub counted-whole : (size : ℕ) → size ≤ nodeLimit → counted size ≡ size
+pub counted-whole : (size : ℕ) → size ≤ nodeLimit → cappedSize size ≡ size
 counted-whole size h = min-eq-left (omega arith)
 
-pub counted-past : (size : ℕ) → nodeLimit < size → counted size ≡ nodeLimit + 1
+pub counted-past : (size : ℕ) → nodeLimit < size → cappedSize size ≡ nodeLimit + 1
 counted-past size h = min-eq-right (omega arith)
 
 -- so that it says whether the limit is passed
-pub counted-limit : (size : ℕ) → counted size ≤ nodeLimit → counted size ≡ size
+pub counted-limit : (size : ℕ) → cappedSize size ≤ nodeLimit → cappedSize size ≡ size
 counted-limit size h = omega arith
 
-pub counted-most : (size : ℕ) → counted size ≤ nodeLimit + 1
+pub counted-most : (size : ℕ) → cappedSize size ≤ nodeLimit + 1
 counted-most size = min-le-right size (nodeLimit + 1)
 
 -- and may stop on the way
-pub counted-then : (size more : ℕ) → counted (counted size + more) ≡ counted (size + more)
+pub counted-then : (size more : ℕ) → cappedSize (cappedSize size + more) ≡ cappedSize (size + more)
 counted-then size more = omega arith
 
-pub counted-step : {total' next : ℕ} (total size rest : ℕ) → total' ≡ counted (total + size) → next ≡ size + rest
-    → counted (total' + rest) ≡ counted (total + next)
+pub counted-step : {total' next : ℕ} (total size rest : ℕ) → total' ≡ cappedSize (total + size) → next ≡ size + rest
+    → cappedSize (total' + rest) ≡ cappedSize (total + next)
 counted-step total size rest e f =
     let k : total + size + rest ≡ total + (size + rest) = omega arith in
-    rw (e, f) (counted-then (total + size) rest ∙ ap counted k)
+    rw (e, f) (counted-then (total + size) rest ∙ ap cappedSize k)
 
-pub counted-end : (total rest : ℕ) → total ≤ nodeLimit + 1 → rest ≡ 0 → total ≡ counted (total + rest)
+pub counted-end : (total rest : ℕ) → total ≤ nodeLimit + 1 → rest ≡ 0 → total ≡ cappedSize (total + rest)
 counted-end total rest h e = omega arith

@@ -11,8 +11,8 @@ abbrev pub nodeLimit : ℕ
 nodeLimit = 1048576
 
 -- a size counted no further than one past the limit: elements of a block may overlap, so that the true sum can pass every machine number
-abbrev pub counted : ℕ → ℕ
-counted size = min size (nodeLimit + 1)
+abbrev pub cappedSize : ℕ → ℕ
+cappedSize size = min size (nodeLimit + 1)
 
 -- what entries add to a node's size: all but the 40 of a node without any
 abbrev pub entriesSize : Bool → List Entry → ℕ

@@ -6,7 +6,7 @@ ghost use Rattle.page.specs.Layout.{countOf, entryOf, entriesOf};
 ghost use Rattle.page.specs.PageRules.{SoundBlock};
 ghost use Rattle.pack.specs.Pack.{entrySize, nodeSize};
 ghost use Rattle.pack.specs.Plan.{range};
-ghost use Rattle.size.specs.Size.{nodeLimit, counted, entriesSize};
+ghost use Rattle.size.specs.Size.{nodeLimit, cappedSize, entriesSize};
 use pack::element::element_size;
 use pack::element::value;
 use page::layout::count;
@@ -31,7 +31,7 @@ pub fn entry_size(b: &[u8], leaf: bool, i: usize) -> usize
 // A size with some bytes more, counted no further than one past the limit.
 pub fn add_size(sum: usize, more: usize) -> usize
     requires { ⌜ sum ≤ nodeLimit + 1 ⌝ }
-    ensures { λ r. ⌜ r ≡ counted (sum + more) ⌝ }
+    ensures { λ r. ⌜ r ≡ cappedSize (sum + more) ⌝ }
 {
     if NODE_LIMIT + 1 - sum <= more {
         return NODE_LIMIT + 1;
@@ -42,7 +42,7 @@ pub fn add_size(sum: usize, more: usize) -> usize
 // A size with the entries from `from` to `to` more, counted no further than one past the limit.
 pub fn add_entries(b: &[u8], leaf: bool, from: usize, to: usize, sum: usize) -> usize
     requires { ⌜ (sum ≤ nodeLimit + 1) × (to ≤ countOf (now b)) × SoundBlock leaf true (now b) ⌝ }
-    ensures { λ r. ⌜ r ≡ counted (sum + entriesSize leaf (range leaf (now (b .entry)) from to)) ⌝ }
+    ensures { λ r. ⌜ r ≡ cappedSize (sum + entriesSize leaf (range leaf (now (b .entry)) from to)) ⌝ }
 {
     let mut total = sum;
     let mut i = from;
@@ -56,7 +56,7 @@ pub fn add_entries(b: &[u8], leaf: bool, from: usize, to: usize, sum: usize) -> 
 // The node size of a sound block, counted no further than one past the limit.
 pub fn node_size(b: &[u8], leaf: bool) -> usize
     requires { ⌜ SoundBlock leaf true (now b) ⌝ }
-    ensures { λ r. ⌜ r ≡ counted (nodeSize leaf (entriesOf leaf (now (b .entry)))) ⌝ }
+    ensures { λ r. ⌜ r ≡ cappedSize (nodeSize leaf (entriesOf leaf (now (b .entry)))) ⌝ }
 {
     let n = count(b);
     add_entries(b, leaf, 0, n, NODE_HEADER)

@@ -18,7 +18,8 @@ use Rattle.pack.proofs.RangeLaws.{range-part}
 use Rattle.pack.proofs.PackLaws.{length-pack}
 use Rattle.split.specs.Split.{threshold, cutsOf, piecesFrom, piecesOf}
 use Rattle.split.specs.Run.{cutsAfter, firstCut, endOr, pieceEnd, piecesAfter, runEnd}
-use Rattle.split.specs.Write.{spanOf, spansOf, inside, apart, clearOf, placed, bytesIn, packAll, cappedSpans}
+use Rattle.field.specs.Sizes.{blockInside}
+use Rattle.split.specs.Write.{spanOf, spansOf, apart, clearOf, placed, bytesIn, packAll, cappedSpans}
 use Rattle.split.proofs.RunLaws.{none-after, next-after, end-within}
 use Rattle.split.proofs.PartedLaws.{cuts-code}
 use Rattle.split.proofs.PieceLaws.{length-pieces}
@@ -90,7 +91,7 @@ module _ (leaf : Bool) (P : ℕ) where
   clear-counted q k (r ∷ rs) [] h = refl
   clear-counted q k (r ∷ rs) (e ∷ ps) h = rw (apart-counted q k r (spanOf leaf P e) h, clear-counted q k rs ps h)
 
-  inside-counted : (N q k : ℕ) → N ≤ 32768 → inside N q (min k 32769) ≡ inside N q k
+  inside-counted : (N q k : ℕ) → N ≤ 32768 → blockInside N q (min k 32769) ≡ blockInside N q k
   inside-counted N q k h =
       ap (λ (x : Bool). leb 2 q && x) (leb-same (q + min k 32769) N (q + k) N (λ x. omega arith) (λ x. omega arith))
 
@@ -99,12 +100,12 @@ module _ (leaf : Bool) (P : ℕ) where
     unfolding placed
     placed-counted [] ps = refl
     placed-counted (q ∷ qs) [] = refl
-    placed-counted (q ∷ qs) (e ∷ ps) = rw (inside-counted N q (spanOf leaf P e) small, placed-counted qs ps) (go (inside N q (spanOf leaf P e)) refl)
+    placed-counted (q ∷ qs) (e ∷ ps) = rw (inside-counted N q (spanOf leaf P e) small, placed-counted qs ps) (go (blockInside N q (spanOf leaf P e)) refl)
       where
         k : ℕ
         k = spanOf leaf P e
 
-        go : (x : Bool) → inside N q k ≡ x
+        go : (x : Bool) → blockInside N q k ≡ x
             → (x && (clearOf q (min k 32769) qs (cappedSpans leaf P ps) && placed N qs (spansOf leaf P ps)))
             ≡ (x && (clearOf q k qs (spansOf leaf P ps) && placed N qs (spansOf leaf P ps)))
         go false i = refl
@@ -123,7 +124,7 @@ module _ (leaf : Bool) (P : ℕ) where
     counted-exact (q ∷ qs) (p ∷ ps) h e =
         let k : ℕ = min (spanOf leaf P p) 32769 in
         let c : Bool = clearOf q k qs (cappedSpans leaf P ps) in
-        let both = and-both (inside N q k) (c && placed N qs (cappedSpans leaf P ps)) e in
+        let both = and-both (blockInside N q k) (c && placed N qs (cappedSpans leaf P ps)) e in
         let rest = counted-exact qs ps (omega arith) (and-both c (placed N qs (cappedSpans leaf P ps)) (both .1) .1) in
         let l = inside-end N q k (both .0) in
         let m : min (spanOf leaf P p) 32769 ≡ spanOf leaf P p = omega arith in
@@ -133,14 +134,14 @@ module _ (leaf : Bool) (P : ℕ) where
 module _ (leaf : Bool) (P : ℕ) where
   -- its block is inside
   pub placed-at : (N : ℕ) (qs : List ℕ) (ps : List (List Entry)) → placed N qs (spansOf leaf P ps) ≡ true
-      → (i : ℕ) → i < length qs → i < length ps → inside N (getD qs i 0) (spanOf leaf P (getD ps i [])) ≡ true
+      → (i : ℕ) → i < length qs → i < length ps → blockInside N (getD qs i 0) (spanOf leaf P (getD ps i [])) ≡ true
   unfolding placed
   placed-at N [] ps e i h k = absurd (omega arith)
   placed-at N (q ∷ qs) [] e i h k = absurd (omega arith)
   placed-at N (q ∷ qs) (p ∷ ps) e zero h k = and-both _ _ e .0
   placed-at N (q ∷ qs) (p ∷ ps) e (suc i) h k =
       let c : Bool = clearOf q (spanOf leaf P p) qs (spansOf leaf P ps) in
-      let rest = and-both (inside N q (spanOf leaf P p)) (c && placed N qs (spansOf leaf P ps)) e .1 in
+      let rest = and-both (blockInside N q (spanOf leaf P p)) (c && placed N qs (spansOf leaf P ps)) e .1 in
       placed-at N qs ps (and-both c (placed N qs (spansOf leaf P ps)) rest .1) i (omega arith) (omega arith)
 
   -- and stands after the blocks before it

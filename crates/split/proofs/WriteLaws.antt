@@ -13,10 +13,11 @@ use lib.Seq.{drop-cons}
 use borrow.Author.Tests.{le-leb, lt-leb, leb-true, leb-false}
 use Rattle.page.specs.Layout.{Entry}
 use Rattle.page.proofs.TestLaws.{leb-same, and-both}
-use Rattle.pack.specs.Pack.{pagesNeeded, blockSize, pack}
+use Rattle.field.specs.Sizes.{pagesNeeded, blockInside}
+use Rattle.pack.specs.Pack.{blockSize, pack}
 use Rattle.pack.specs.Plan.{range}
 use Rattle.split.specs.Run.{cutsAfter, firstCut, endOr, pieceEnd, piecesAfter}
-use Rattle.split.specs.Write.{spanOf, spansOf, inside, apart, clearOf, placed, bytesIn, packAll, cappedSpans}
+use Rattle.split.specs.Write.{spanOf, spansOf, apart, clearOf, placed, bytesIn, packAll, cappedSpans}
 use Rattle.split.proofs.RunLaws.{run-done, next-after}
 
 -- ---- a test that decides, and one that leaves it to the next
@@ -66,18 +67,18 @@ pub bytes-small : (m P : ℕ) → m ≤ 32769 → P ≤ 65536 → m * P ≤ 2147
 bytes-small m P h k = let x = mul-le-mul-right P h in omega arith
 
 -- a block that lies inside ends by the image's end
-pub inside-end : (N q k : ℕ) → inside N q k ≡ true → q + k ≤ N
+pub inside-end : (N q k : ℕ) → blockInside N q k ≡ true → q + k ≤ N
 inside-end N q k e = leb-true (q + k) N (and-both (leb 2 q) (leb (q + k) N) e .1)
 
 -- the tests of the code
 module _ (N q k : ℕ) where
-  pub inside-low : q < 2 → false ≡ inside N q k
+  pub inside-low : q < 2 → false ≡ blockInside N q k
   inside-low h = rw (lt-leb 2 q h)
 
-  pub inside-past : 2 ≤ q → N < q → false ≡ inside N q k
+  pub inside-past : 2 ≤ q → N < q → false ≡ blockInside N q k
   inside-past h l = rw (le-leb 2 q h, lt-leb (q + k) N (omega arith))
 
-  pub inside-test : 2 ≤ q → q ≤ N → leb k (N - q) ≡ inside N q k
+  pub inside-test : 2 ≤ q → q ≤ N → leb k (N - q) ≡ blockInside N q k
   inside-test h l = rw (le-leb 2 q h) (leb-same k (N - q) (q + k) N (λ x. omega arith) (λ x. omega arith))
 
 module _ (q k r m : ℕ) where
@@ -116,14 +117,14 @@ module _ (leaf : Bool) (t : ℕ) (b : List ℕ) (end : ℕ) where
 
     placed-turn : (N : ℕ) → m ≡ min (spanOf leaf P (range leaf b c e)) 32769
         → placed N (drop at pages) (cappedSpans leaf P (piecesAfter leaf t b end (length pages - at) c))
-        ≡ inside N (getD pages at 0) m
+        ≡ blockInside N (getD pages at 0) m
         && (clearOf (getD pages at 0) m (drop (at + 1) pages) (cappedSpans leaf P (piecesAfter leaf t b end (length pages - (at + 1)) e))
         && placed N (drop (at + 1) pages) (cappedSpans leaf P (piecesAfter leaf t b end (length pages - (at + 1)) e)))
     unfolding placed
     placed-turn N hm = rw (next, hm, drop-cons pages at 0 l, add-one at)
 
     -- a piece whose block is not inside, one that overlaps a later one, and one that does neither
-    module _ (N : ℕ) (x : Bool) (hm : m ≡ min (spanOf leaf P (range leaf b c e)) 32769) (hx : x ≡ inside N (getD pages at 0) m) where
+    module _ (N : ℕ) (x : Bool) (hm : m ≡ min (spanOf leaf P (range leaf b c e)) 32769) (hx : x ≡ blockInside N (getD pages at 0) m) where
       pub placed-out : x ≡ false → placed N (drop at pages) (cappedSpans leaf P (piecesAfter leaf t b end (length pages - at) c)) ≡ false
       placed-out e = placed-turn N hm ∙ and-false _ _ (sym hx ∙ e)
 

@@ -13,13 +13,13 @@ use Rattle.field.specs.Sizes.{countAllowed}
 use Rattle.page.specs.declared.rules.Verdict.{Verdict}
 use Rattle.page.specs.declared.rules.Verdict.the-variants.{Sound, Breach}
 use Rattle.page.specs.Layout.{Entry, isLeaf, entriesOf}
-use Rattle.page.specs.PageRules.{lentCheckOf}
+use Rattle.page.specs.PageRules.{lentCheckOf, afterCheck}
 use Rattle.page.proofs.TestLaws.{and-both}
 use Rattle.pack.specs.Pack.{nodeSize}
 use Rattle.split.specs.declared.write.Written.{Written}
 use Rattle.split.specs.declared.write.Written.the-variants.{Pieces, Refused}
 use Rattle.size.specs.Size.{nodeLimit}
-use Rattle.split.specs.Write.{spansOf, placed, listGood, bytesIn, cappedSpans, writtenIf, writtenOf, orNotWritten, blockPieces, splitWriteOf}
+use Rattle.split.specs.Write.{spansOf, placed, listGood, bytesIn, cappedSpans, writtenIf, writtenOf, blockPieces, splitWriteOf}
 use Rattle.split.proofs.PagesLaws.{length-spans, placed-counted, counted-exact}
 
 -- an allowed page count is at most 32,768
@@ -73,7 +73,7 @@ module _ {bytes count : ℕ} where
   count-passed true a e = (refl, e)
   count-passed false a e = absurd (let z : _≡_ {A = ℕ} 0 1 = cc in omega arith)
 
-  check-passed : (v : Verdict) (a : Written) → orNotWritten v a ≡ Pieces bytes count → (v ≡ Sound) × (a ≡ Pieces bytes count)
+  check-passed : (v : Verdict) (a : Written) → afterCheck v Refused a ≡ Pieces bytes count → (v ≡ Sound) × (a ≡ Pieces bytes count)
   check-passed Sound a e = (refl, e)
   check-passed (Breach n i) a e = absurd (let z : _≡_ {A = ℕ} 0 1 = cc in omega arith)
 

@@ -5,10 +5,8 @@ use mathlib.Core.List.{List, _++_}
 use Prim.Native.Nat.{ℕ}
 use lib.Dec.{ltb}
 use lib.ListN.{length, drop}
-use Rattle.page.specs.declared.rules.Verdict.{Verdict}
-use Rattle.page.specs.declared.rules.Verdict.the-variants.{Sound, Breach}
 use Rattle.page.specs.Layout.{isLeaf, entriesOf}
-use Rattle.page.specs.PageRules.{lentCheckOf}
+use Rattle.page.specs.PageRules.{afterCheck, lentCheckOf}
 use Rattle.pack.specs.Pack.{nodeSize}
 use Rattle.size.specs.Size.{nodeLimit}
 use Rattle.split.specs.declared.cuts.Parted.{Parted}
@@ -23,14 +21,9 @@ blockCuts P b = cutsOf (isLeaf b) P (entriesOf (isLeaf b) b)
 abbrev pub partedIf : ℕ → List ℕ → ℕ → Parted
 partedIf size made room = cond (ltb nodeLimit size) (Refused 15 0) (cond (ltb room (length made)) (Refused 10 0) (Cuts (length made)))
 
--- the lent check comes first
-abbrev pub orRefused : Verdict → Parted → Parted
-orRefused Sound a = a
-orRefused (Breach number element) a = Refused number element
-
 -- `split` of a lent block, with room for so many cuts
 unfoldable pub splitOf : ℕ → List ℕ → ℕ → Parted
-splitOf P b room = orRefused (lentCheckOf P b) (partedIf (nodeSize (isLeaf b) (entriesOf (isLeaf b) b)) (blockCuts P b) room)
+splitOf P b room = afterCheck (lentCheckOf P b) Refused (partedIf (nodeSize (isLeaf b) (entriesOf (isLeaf b) b)) (blockCuts P b) room)
 
 -- the lent list afterwards: the cuts, then its old rest; a refusal changes nothing
 abbrev pub listLeft : Parted → List ℕ → List ℕ → List ℕ

@@ -5,12 +5,10 @@ use mathlib.Core.List.{List, [], _∷_, _++_, map}
 use Prim.Native.Nat.{ℕ, _+_, _*_, min}
 use lib.Dec.{leb, ltb, eqb}
 use lib.ListN.{length, drop}
-use Rattle.field.specs.Sizes.{countAllowed}
-use Rattle.page.specs.declared.rules.Verdict.{Verdict}
-use Rattle.page.specs.declared.rules.Verdict.the-variants.{Sound, Breach}
+use Rattle.field.specs.Sizes.{countAllowed, pagesNeeded, blockInside}
 use Rattle.page.specs.Layout.{Entry, isLeaf, entriesOf}
-use Rattle.page.specs.PageRules.{lentCheckOf}
-use Rattle.pack.specs.Pack.{nodeSize, pagesNeeded, pack}
+use Rattle.page.specs.PageRules.{afterCheck, lentCheckOf}
+use Rattle.pack.specs.Pack.{nodeSize, pack}
 use Rattle.size.specs.Size.{nodeLimit}
 use Rattle.split.specs.declared.write.Written.{Written}
 use Rattle.split.specs.declared.write.Written.the-variants.{Pieces, Refused}
@@ -23,11 +21,7 @@ spanOf leaf P piece = pagesNeeded (nodeSize leaf piece) P
 abbrev pub spansOf : Bool → ℕ → List (List Entry) → List ℕ
 spansOf leaf P pieces = map (spanOf leaf P) pieces
 
--- the block of k pages from page q on: it lies in 2 to N - 1
-abbrev pub inside : ℕ → ℕ → ℕ → Bool
-inside N q k = leb 2 q && leb (q + k) N
-
--- it does not overlap the block of m pages from r on, nor any of a list
+-- the block of k pages from page q on does not overlap that of m pages from r on, nor any of a list
 abbrev pub apart : ℕ → ℕ → ℕ → ℕ → Bool
 apart q k r m = leb (q + k) r || leb (r + m) q
 
@@ -40,7 +34,7 @@ clearOf q k (r ∷ rs) (m ∷ ms) = apart q k r m && clearOf q k rs ms
 unfoldable pub placed : ℕ → List ℕ → List ℕ → Bool
 placed N [] ks = true
 placed N (q ∷ qs) [] = true
-placed N (q ∷ qs) (k ∷ ks) = inside N q k && (clearOf q k qs ks && placed N qs ks)
+placed N (q ∷ qs) (k ∷ ks) = blockInside N q k && (clearOf q k qs ks && placed N qs ks)
 
 -- just as many pages as pieces, and placed so
 abbrev pub listGood : ℕ → List ℕ → List ℕ → Bool
@@ -67,11 +61,6 @@ abbrev pub writtenOf : Bool → ℕ → ℕ → ℕ → List (List Entry) → Li
 writtenOf leaf P N size pieces pages room =
     writtenIf (listGood N pages (spansOf leaf P pieces)) size (bytesIn P (spansOf leaf P pieces)) room (length pieces)
 
--- the lent check comes first
-abbrev pub orNotWritten : Verdict → Written → Written
-orNotWritten Sound a = a
-orNotWritten (Breach number element) a = Refused number element
-
 -- the pieces of a lent block
 abbrev pub blockPieces : ℕ → List ℕ → List (List Entry)
 blockPieces P b = piecesOf (isLeaf b) P (entriesOf (isLeaf b) b)
@@ -80,7 +69,7 @@ blockPieces P b = piecesOf (isLeaf b) P (entriesOf (isLeaf b) b)
 unfoldable pub splitWriteOf : ℕ → ℕ → List ℕ → List ℕ → ℕ → Written
 splitWriteOf P N b pages room =
     cond (countAllowed N)
-    (orNotWritten (lentCheckOf P b) (writtenOf (isLeaf b) P N (nodeSize (isLeaf b) (entriesOf (isLeaf b) b)) (blockPieces P b) pages room))
+    (afterCheck (lentCheckOf P b) Refused (writtenOf (isLeaf b) P N (nodeSize (isLeaf b) (entriesOf (isLeaf b) b)) (blockPieces P b) pages room))
     (Refused 1 0)
 
 -- the output afterwards: the packed pieces, then its old rest; a refusal changes nothing

@@ -8,7 +8,7 @@ ghost use Rattle.field.specs.Run.{putAt};
 ghost use Rattle.page.specs.Layout.{countOf, entriesOf};
 ghost use Rattle.page.specs.PageRules.{SoundBlock};
 ghost use Rattle.pack.specs.Pack.{nodeSize};
-ghost use Rattle.size.specs.Size.{counted};
+ghost use Rattle.size.specs.Size.{cappedSize};
 ghost use Rattle.split.specs.Split.{threshold, cutsOf};
 ghost use Rattle.split.specs.Run.{restart, cutsAfter, firstCut, runEnd};
 ghost use Rattle.split.specs.Parted.{partedIf, blockCuts, splitOf, listLeft};
@@ -125,7 +125,7 @@ fn write_cuts(b: &[u8], leaf: bool, t: usize, end: usize, cuts: &mut [u64])
 // Where the run over a block's entries ends, for a node of this size.
 pub fn run_end(b: &[u8], leaf: bool, p: usize, size: usize) -> usize
     requires { ⌜ SoundBlock leaf true (now b) ⌝ }
-    requires { ⌜ (p ≤ 65536) × (size ≡ counted (nodeSize leaf (entriesOf leaf (now b)))) ⌝ }
+    requires { ⌜ (p ≤ 65536) × (size ≡ cappedSize (nodeSize leaf (entriesOf leaf (now b)))) ⌝ }
     ensures { λ r. ⌜ r ≡ runEnd leaf p (now (b .entry)) ⌝ }
 {
     let n = count(b);

@@ -4,7 +4,7 @@ ghost use mathlib.Core.Bool.{true};
 ghost use Prim.Native.Nat.{_+_, _-_, _<_, _≤_, min};
 ghost use lib.Dec.{leb};
 ghost use lib.ListN.{length, drop};
-ghost use Rattle.field.specs.Sizes.{sizeAllowed, countAllowed};
+ghost use Rattle.field.specs.Sizes.{sizeAllowed, countAllowed, blockInside};
 ghost use Rattle.field.specs.Run.{putAt};
 ghost use Rattle.page.specs.Layout.{countOf, isLeaf, entriesOf};
 ghost use Rattle.page.specs.PageRules.{SoundBlock};
@@ -13,7 +13,6 @@ ghost use Rattle.pack.specs.Plan.{range};
 ghost use Rattle.split.specs.Split.{piecesOf};
 ghost use Rattle.split.specs.Run.{pieceEnd, piecesAfter, Ready};
 ghost use Rattle.split.specs.Write.{spanOf, spansOf, clearOf, placed, bytesIn, packAll, cappedSpans, writtenOf, blockPieces, splitWriteOf, outLeft};
-ghost use Rattle.split.specs.Write.{inside as insideOf};
 ghost use Rattle.split.specs.Write.{apart as apartOf};
 use super::cuts::add_capped;
 use super::cuts::count_cuts;
@@ -87,7 +86,7 @@ fn span(b: &[u8], leaf: bool, p: usize, i: usize, j: usize) -> usize
 // Whether the block of `k` pages from `q` on lies in the pages 2 to `n` - 1.
 fn inside(n: usize, q: u64, k: usize) -> bool
     requires { ⌜ n ≤ 32768 ⌝ }
-    ensures { λ r. ⌜ r ≡ insideOf n q k ⌝ }
+    ensures { λ r. ⌜ r ≡ blockInside n q k ⌝ }
 {
     if q < 2 {
         return false;

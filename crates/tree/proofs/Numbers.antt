@@ -12,16 +12,16 @@ use lib.ListN.{length, drop}
 use Rattle.page.specs.declared.rules.Verdict.{Verdict}
 use Rattle.page.specs.declared.rules.Verdict.the-variants as verdict
 use Rattle.page.specs.Layout.{countOf, isLeaf}
-use Rattle.page.specs.PageRules.{andThen, breachIf, firstBad, tableBad, elementBad, keyBad, headerBad, blockOf, checkOf}
+use Rattle.page.specs.PageRules.{andThen, breachIf, firstBad, tableBad, elementBad, keyBad, headerBad, blockOf, checkOf, afterCheck}
 use Rattle.page.proofs.FirstBreach.{breach-first}
-use Rattle.walk.specs.Tree.{Key, Item, View, bad, branch, leaf, keys, memb, inside, firstOut, unlessOut, next, Walker, pass, fault, andThen as thenWalk, walkAll, walkPage, walk, same, childFor, seekFrom, lookPage, Answer, refused, found, absent, lookup, Verdict as Walk}
+use Rattle.walk.specs.Tree.{Key, Item, View, bad, branch, leaf, keys, memb, inside, firstOut, unlessOut, next, Walker, pass, fault, ifPassed, walkAll, walkPage, walk, same, childFor, seekFrom, lookPage, Answer, refused, found, absent, lookup, Verdict as Walk}
 use Rattle.tree.specs.declared.lookup.Fault.{Fault}
 use Rattle.tree.specs.declared.lookup.Value.{Value}
 use Rattle.tree.specs.declared.lookup.Looked.{Looked}
 use Rattle.tree.specs.declared.lookup.Looked.the-variants as looked
 use Rattle.tree.specs.declared.judge.Judged.{Judged}
 use Rattle.tree.specs.declared.judge.Judged.the-variants.{Sound, Refused}
-use Rattle.tree.specs.View.{geometryBad, elementsView, checkedView, blockView, viewOf}
+use Rattle.tree.specs.View.{geometryBad, elementsView, blockView, viewOf}
 use Rattle.tree.specs.Lookup.{faultAt, lookedOf, lookupOf, lookedNumber}
 use Rattle.tree.specs.Judge.{idOutside, idNotAbove, idMarked, freeHeaderBad, idsOf, freelistOf, judgedOf, afterTree, judgeOf, Passes, judgedNumber}
 use Rattle.tree.proofs.Demand3.{demand3}
@@ -68,7 +68,7 @@ view-numbered : (image : List ℕ) (P N : ℕ) → NumberedView (viewOf image P 
 unfolding viewOf blockView
 view-numbered image P N q t r i e = go (headerBad N q (drop (q * P) image)) e
   where
-    block : (l : Bool) (v : Verdict) → Numbered v → checkedView v (elementsView l (q * P) (blockOf image P q)) ≡ bad r i → 0 < r
+    block : (l : Bool) (v : Verdict) → Numbered v → afterCheck v bad (elementsView l (q * P) (blockOf image P q)) ≡ bad r i → 0 < r
     block true verdict.Sound n h = absurd (let z : _≡_ {A = ℕ} 0 1 = cc in omega arith)
     block false verdict.Sound n h = absurd (let z : _≡_ {A = ℕ} 0 1 = cc in omega arith)
     block l (verdict.Breach k j) n h = let u : k ≡ r = cc in n r j (ap (λ (x : ℕ). verdict.Breach x j) u)
@@ -86,7 +86,7 @@ unfolding walkAll
 all-faulted [] go f high n vs r p i e = absurd (let z : _≡_ {A = ℕ} 0 1 = cc in omega arith)
 all-faulted (c ∷ cs) go f high n vs r p i e = step (go (c .value) (c .key) (next cs high) vs) (f (c .value) (c .key) (next cs high) vs) (λ m ws. all-faulted cs go f high (n + m) ws) e
   where
-    step : (w : Walk) → Faulted w → ((m : ℕ) (ws : List ℕ) → Faulted (walkAll go cs high (n + m) ws)) → thenWalk w (λ m ws. walkAll go cs high (n + m) ws) ≡ fault r p i → 0 < r
+    step : (w : Walk) → Faulted w → ((m : ℕ) (ws : List ℕ) → Faulted (walkAll go cs high (n + m) ws)) → ifPassed w (λ m ws. walkAll go cs high (n + m) ws) ≡ fault r p i → 0 < r
     step (pass m ws) g ih h = ih m ws r p i h
     step (fault k q j) g ih h = g r p i h
 

@@ -12,17 +12,17 @@ use lib.ListN.{length, drop}
 use Rattle.page.specs.declared.rules.Verdict.{Verdict}
 use Rattle.page.specs.declared.rules.Verdict.the-variants as verdict
 use Rattle.page.specs.Layout.{idOf, typeOf, countOf, overflowOf, isLeaf}
-use Rattle.page.specs.PageRules.{andThen, firstBad, headerBad, blockOf, checkOf, SoundBlock}
+use Rattle.page.specs.PageRules.{andThen, firstBad, headerBad, blockOf, checkOf, afterCheck}
 use Rattle.page.proofs.FirstBreach.{breach-first}
 use Rattle.page.proofs.RuleLaws.{bad-none-at}
 use Rattle.page.proofs.TestLaws.{or-neither}
-use Rattle.walk.specs.Tree.{Key, Item, leaf, branch, keys, inside, memb, firstOut}
+use Rattle.walk.specs.Tree.{Key, Item, branch, keys, inside, memb, firstOut}
 use Rattle.tree.specs.declared.range.Page.{Page}
 use Rattle.tree.specs.declared.range.Page.the-variants.{Branch, Leaf, Breach}
 use Rattle.tree.specs.View.{row, childItem, valueItem, viewOf}
 use Rattle.tree.specs.Sound.{SoundSizes}
 use Rattle.tree.specs.Judge.{freeHeaderBad, idAt, idOutside, idNotAbove, idMarked, idsOf, freelistOf}
-use Rattle.tree.specs.Walk.{keyOut, unlessOut, pageOf, Branching}
+use Rattle.tree.specs.Walk.{keyOut, breachIfOut, judgePageOf, Branching}
 use Rattle.tree.proofs.ViewLaws.{length-row, view-branch, view-leaf, bad-header, leaf-bad, branch-bad, leaf-good, branch-good}
 use Rattle.tree.proofs.WalkLaws.{optionOf, out-row, page-branch, page-leaf}
 use Rattle.tree.proofs.ViewFrame.{header-ends}
@@ -30,46 +30,42 @@ use Rattle.tree.proofs.ImageLaws.{block-small}
 use Rattle.tree.proofs.LookupLaws.{inside-parts}
 
 -- ---- a page of the tree
-abbrev pub orBreach : Verdict → Page → Page
-orBreach verdict.Sound p = p
-orBreach (verdict.Breach number i) p = Breach number i
-
-out-told : (bad : ℕ → Bool) (k i : ℕ) (p : Page) → unlessOut (optionOf (firstBad bad 7 k i)) p ≡ orBreach (firstBad bad 7 k i) p
+out-told : (bad : ℕ → Bool) (k i : ℕ) (p : Page) → breachIfOut (optionOf (firstBad bad 7 k i)) p ≡ afterCheck (firstBad bad 7 k i) Breach p
 out-told bad k i p = go (firstBad bad 7 k i) refl
   where
-    go : (v : Verdict) → firstBad bad 7 k i ≡ v → unlessOut (optionOf v) p ≡ orBreach v p
+    go : (v : Verdict) → firstBad bad 7 k i ≡ v → breachIfOut (optionOf v) p ≡ afterCheck v Breach p
     go verdict.Sound e = refl
     go (verdict.Breach r j) e = let h = breach-first bad 7 k i r j e .0 in rw h
 
 ranged : {A : Type 0} (f : ℕ → Item A) (low : Key) (high : Option Key) (k : ℕ) (p : Page)
-    → unlessOut (firstOut low high (keys (row f k 0)) 0) p ≡ orBreach (firstBad (λ j. not (Rattle.walk.specs.Tree.inRange low high (f j .key))) 7 k 0) p
-ranged f low high k p = ap (λ (o : Option ℕ). unlessOut o p) (out-row f low high k 0) ∙ out-told (λ j. not (Rattle.walk.specs.Tree.inRange low high (f j .key))) k 0 p
+    → breachIfOut (firstOut low high (keys (row f k 0)) 0) p ≡ afterCheck (firstBad (λ j. not (Rattle.walk.specs.Tree.inRange low high (f j .key))) 7 k 0) Breach p
+ranged f low high k p = ap (λ (o : Option ℕ). breachIfOut o p) (out-row f low high k 0) ∙ out-told (λ j. not (Rattle.walk.specs.Tree.inRange low high (f j .key))) k 0 p
 
 module _ (image : List ℕ) (P N q : ℕ) (top : Bool) (low : Key) (high : Option Key) where
-  pub header-page : headerBad N q (drop (q * P) image) ≡ true → pageOf (viewOf image P N q top) low high ≡ Breach 3 0
-  unfolding pageOf
+  pub header-page : headerBad N q (drop (q * P) image) ≡ true → judgePageOf (viewOf image P N q top) low high ≡ Breach 3 0
+  unfolding judgePageOf
   header-page e = rw (bad-header image P N q top e)
 
   module _ (s : List ℕ) (is : s ≡ blockOf image P q) (header : headerBad N q (drop (q * P) image) ≡ false) where
     pub leaf-page : isLeaf s ≡ true
-        → pageOf (viewOf image P N q top) low high ≡ orBreach (andThen (checkOf true top s) (firstBad (keyOut true s low high) 7 (countOf s) 0)) (Leaf (countOf s))
-    unfolding pageOf
+        → judgePageOf (viewOf image P N q top) low high ≡ afterCheck (andThen (checkOf true top s) (firstBad (keyOut true s low high) 7 (countOf s) 0)) Breach (Leaf (countOf s))
+    unfolding judgePageOf
     leaf-page l = go (checkOf true top s) refl
       where
         go : (c : Verdict) → checkOf true top s ≡ c
-            → pageOf (viewOf image P N q top) low high ≡ orBreach (andThen c (firstBad (keyOut true s low high) 7 (countOf s) 0)) (Leaf (countOf s))
+            → judgePageOf (viewOf image P N q top) low high ≡ afterCheck (andThen c (firstBad (keyOut true s low high) 7 (countOf s) 0)) Breach (Leaf (countOf s))
         go (verdict.Breach r e) c = rw (leaf-bad image P N q top s is header r e l c)
         go verdict.Sound c =
             rw (leaf-good image P N q top s is header l c, length-row (valueItem (q * P) s) (countOf s) 0)
             (ranged (valueItem (q * P) s) low high (countOf s) (Leaf (countOf s)))
 
     pub branch-page : isLeaf s ≡ false
-        → pageOf (viewOf image P N q top) low high ≡ orBreach (andThen (checkOf false false s) (firstBad (keyOut false s low high) 7 (countOf s) 0)) (Branch (countOf s))
-    unfolding pageOf
+        → judgePageOf (viewOf image P N q top) low high ≡ afterCheck (andThen (checkOf false false s) (firstBad (keyOut false s low high) 7 (countOf s) 0)) Breach (Branch (countOf s))
+    unfolding judgePageOf
     branch-page l = go (checkOf false false s) refl
       where
         go : (c : Verdict) → checkOf false false s ≡ c
-            → pageOf (viewOf image P N q top) low high ≡ orBreach (andThen c (firstBad (keyOut false s low high) 7 (countOf s) 0)) (Branch (countOf s))
+            → judgePageOf (viewOf image P N q top) low high ≡ afterCheck (andThen c (firstBad (keyOut false s low high) 7 (countOf s) 0)) Breach (Branch (countOf s))
         go (verdict.Breach r e) c = rw (branch-bad image P N q top s is header r e l c)
         go verdict.Sound c =
             rw (branch-good image P N q top s is header l c, length-row (childItem s) (countOf s) 0)
@@ -117,7 +113,7 @@ module _ (image : List ℕ) (P N f : ℕ) (vs : List ℕ) where
 
 -- ---- what a page's verdict says of its block
 module _ (image : List ℕ) (P N q : ℕ) (top : Bool) (low : Key) (high : Option Key) (n : ℕ) where
-  pub told-branch : pageOf (viewOf image P N q top) low high ≡ Branch n
+  pub told-branch : judgePageOf (viewOf image P N q top) low high ≡ Branch n
       → Branching image P N q n × (viewOf image P N q top ≡ branch (row (childItem (blockOf image P q)) n 0))
   told-branch e =
       let x = page-branch (viewOf image P N q top) low high n e in
@@ -128,7 +124,7 @@ module _ (image : List ℕ) (P N q : ℕ) (top : Bool) (low : Key) (high : Optio
       )
 
   -- a leaf has fewer entries than the image has bytes
-  pub few-entries : SoundSizes image P N → pageOf (viewOf image P N q top) low high ≡ Leaf n → n ≤ 2147483648
+  pub few-entries : SoundSizes image P N → judgePageOf (viewOf image P N q top) low high ≡ Leaf n → n ≤ 2147483648
   few-entries sizes e =
       let x = page-leaf (viewOf image P N q top) low high n e in
       let b = view-leaf image P N q top (x .0) (x .1) in

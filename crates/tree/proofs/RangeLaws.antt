@@ -10,13 +10,13 @@ use native.Mathlib.Nat.{eq-or-lt-of-le}
 use native.Mathlib.Omega.{arith}
 use borrow.Author.Tests.{not-false}
 use Rattle.field.specs.declared.order.Order.{Order}
-use Rattle.field.specs.Order.{orderOf}
+use Rattle.field.specs.Order.{orderOf, isLower}
 use Rattle.page.specs.declared.rules.Verdict.the-variants.{Sound}
 use Rattle.page.specs.Layout.{countOf, keyOf}
 use Rattle.page.specs.PageRules.{firstBad, SoundBlock}
 use Rattle.page.proofs.RuleLaws.{none-bad}
 use Rattle.page.proofs.EntryLaws.{rising-far}
-use Rattle.walk.specs.Tree.{Key, lower, under, inRange, isLower}
+use Rattle.walk.specs.Tree.{Key, lower, under, inRange}
 use Rattle.walk.proofs.KeyLaws.{order-lower, lower-one-way, lower-not, weak-chain, under-chain, range-low, range-high, range-both}
 use Rattle.tree.specs.Walk.{upperOf, keyOut}
 

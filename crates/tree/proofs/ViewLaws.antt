@@ -10,12 +10,12 @@ use lib.ListN.{length, drop}
 use Rattle.page.specs.declared.rules.Verdict.{Verdict}
 use Rattle.page.specs.declared.rules.Verdict.the-variants.{Sound, Breach}
 use Rattle.page.specs.Layout.{countOf, isLeaf}
-use Rattle.page.specs.PageRules.{headerBad, blockOf, checkOf, SoundBlock}
+use Rattle.page.specs.PageRules.{headerBad, blockOf, checkOf, SoundBlock, afterCheck}
 use Rattle.page.proofs.RuleLaws.{sound-iff}
 use Rattle.walk.specs.Tree.{Item, bad, branch, leaf, keys, At, Rising, lower, Checked}
 use Rattle.walk.proofs.KeyLaws.{order-lower}
 use Rattle.tree.specs.declared.lookup.Value.{Value}
-use Rattle.tree.specs.View.{row, childItem, valueItem, elementsView, checkedView, blockView, viewOf}
+use Rattle.tree.specs.View.{row, childItem, valueItem, elementsView, blockView, viewOf}
 
 -- ---- rows
 module _ {A : Type 0} (f : ℕ → A) where
@@ -76,14 +76,14 @@ module _ (image : List ℕ) (P N q : ℕ) (top : Bool) where
 
   -- the block's own view, by its type and its check
   block-branch : (start : ℕ) (cs : List (Item ℕ)) (s : List ℕ) (l : Bool) → isLeaf s ≡ l → (v : Verdict) → checkOf l (top && l) s ≡ v
-      → checkedView v (elementsView l start s) ≡ branch cs
+      → afterCheck v bad (elementsView l start s) ≡ branch cs
       → (l ≡ false) × (SoundBlock false false s) × (cs ≡ row (childItem s) (countOf s) 0)
   block-branch start cs s true i Sound c e = absurd (let z : _≡_ {A = ℕ} 0 1 = cc in omega arith)
   block-branch start cs s false i Sound c e = (refl, sound-iff false false s .0 (rw (and-false top) at c), cc)
   block-branch start cs s l i (Breach r x) c e = absurd (let z : _≡_ {A = ℕ} 0 1 = cc in omega arith)
 
   block-leaf : (start : ℕ) (es : List (Item Value)) (s : List ℕ) (l : Bool) → isLeaf s ≡ l → (v : Verdict) → checkOf l (top && l) s ≡ v
-      → checkedView v (elementsView l start s) ≡ leaf es
+      → afterCheck v bad (elementsView l start s) ≡ leaf es
       → (l ≡ true) × (SoundBlock true top s) × (es ≡ row (valueItem start s) (countOf s) 0)
   block-leaf start es s false i Sound c e = absurd (let z : _≡_ {A = ℕ} 0 1 = cc in omega arith)
   block-leaf start es s true i Sound c e = (refl, sound-iff true top s .0 (rw (and-true top) at c), cc)

@@ -27,7 +27,7 @@ use Rattle.tree.specs.declared.judge.Walked.{Walked}
 use Rattle.tree.specs.declared.judge.Outcome.the-variants.{Passed, Broken}
 use Rattle.tree.specs.Lookup.{faultAt}
 use Rattle.tree.specs.View.{row}
-use Rattle.tree.specs.Walk.{upperOf, unlessOut, pageOf, metOf, Marks, Says}
+use Rattle.tree.specs.Walk.{upperOf, breachIfOut, judgePageOf, metOf, Marks, Says}
 
 -- ---- the marks
 pub marks-none : Marks noMarks []
@@ -87,28 +87,28 @@ module _ (N : ℕ) (view : ℕ → Bool → View Value) (q : ℕ) (t : Bool) (lo
   walks (suc d) l e m = let k : suc d - 1 ≡ d = omega arith in rw (e, m, k)
 
   module _ (left : ℕ) (spare : 0 < left) (within : inside N q ≡ true) (fresh : memb q vs ≡ false) where
-    walk-breach : (r i : ℕ) → pageOf (view q t) low high ≡ Breach r i → walk N view left t q low high vs ≡ fault r q i
-    unfolding walkPage pageOf
+    walk-breach : (r i : ℕ) → judgePageOf (view q t) low high ≡ Breach r i → walk N view left t q low high vs ≡ fault r q i
+    unfolding walkPage judgePageOf
     walk-breach r i e = walks left spare within fresh ∙ go (view q t) e
       where
-        out : (o : Option ℕ) (p : Page) (v : Walk) → (p ≡ Breach r i → ⊥) → unlessOut o p ≡ Breach r i → Rattle.walk.specs.Tree.unlessOut o q v ≡ fault r q i
+        out : (o : Option ℕ) (p : Page) (v : Walk) → (p ≡ Breach r i → ⊥) → breachIfOut o p ≡ Breach r i → Rattle.walk.specs.Tree.unlessOut o q v ≡ fault r q i
         out none p v n h = absurd (n h)
         out (some j) p v n h = let a : 7 ≡ r = cc in let b : j ≡ i = cc in rw (← a, b)
 
-        go : (v : View Value) → pageOf v low high ≡ Breach r i → walkPage (walk N view (left - 1) false) v q low high (q ∷ vs) ≡ fault r q i
+        go : (v : View Value) → judgePageOf v low high ≡ Breach r i → walkPage (walk N view (left - 1) false) v q low high (q ∷ vs) ≡ fault r q i
         go (bad s x) h = let a : s ≡ r = cc in let b : x ≡ i = cc in rw (a, b)
         go (branch cs) h = out (firstOut low high (keys cs) 0) (Branch (length cs)) _ (λ g. let z : _≡_ {A = ℕ} 0 1 = cc in omega arith) h
         go (leaf es) h = out (firstOut low high (keys es) 0) (Leaf (length es)) _ (λ g. let z : _≡_ {A = ℕ} 0 1 = cc in omega arith) h
 
-    walk-leaf : (n : ℕ) → pageOf (view q t) low high ≡ Leaf n → walk N view left t q low high vs ≡ pass n (q ∷ vs)
-    unfolding walkPage pageOf
+    walk-leaf : (n : ℕ) → judgePageOf (view q t) low high ≡ Leaf n → walk N view left t q low high vs ≡ pass n (q ∷ vs)
+    unfolding walkPage judgePageOf
     walk-leaf n e = walks left spare within fresh ∙ go (view q t) e
       where
-        none-out : (o : Option ℕ) (p : Page) → unlessOut o p ≡ Leaf n → (o ≡ none) × (p ≡ Leaf n)
+        none-out : (o : Option ℕ) (p : Page) → breachIfOut o p ≡ Leaf n → (o ≡ none) × (p ≡ Leaf n)
         none-out none p h = (refl, h)
         none-out (some j) p h = absurd (let z : _≡_ {A = ℕ} 0 1 = cc in omega arith)
 
-        go : (v : View Value) → pageOf v low high ≡ Leaf n → walkPage (walk N view (left - 1) false) v q low high (q ∷ vs) ≡ pass n (q ∷ vs)
+        go : (v : View Value) → judgePageOf v low high ≡ Leaf n → walkPage (walk N view (left - 1) false) v q low high (q ∷ vs) ≡ pass n (q ∷ vs)
         go (bad s x) h = absurd (let z : _≡_ {A = ℕ} 0 1 = cc in omega arith)
         go (branch cs) h = absurd (let o = none-out (firstOut low high (keys cs) 0) (Branch (length cs)) h .1 in let z : _≡_ {A = ℕ} 0 1 = cc in omega arith)
         go (leaf es) h =
@@ -116,14 +116,14 @@ module _ (N : ℕ) (view : ℕ → Bool → View Value) (q : ℕ) (t : Bool) (lo
             let l : length es ≡ n = (let u = o .1 in cc) in
             rw (o .0, l)
 
-    walk-branch : (n : ℕ) (cs : List (Item ℕ)) → view q t ≡ branch cs → pageOf (view q t) low high ≡ Branch n
+    walk-branch : (n : ℕ) (cs : List (Item ℕ)) → view q t ≡ branch cs → judgePageOf (view q t) low high ≡ Branch n
         → walk N view left t q low high vs ≡ walkAll (walk N view (left - 1) false) cs high 0 (q ∷ vs)
-    unfolding walkPage pageOf
+    unfolding walkPage judgePageOf
     walk-branch n cs f e =
         let o = none-out (firstOut low high (keys cs) 0) (Branch (length cs)) (rw f at e) in
         walks left spare within fresh ∙ rw (f, o)
       where
-        none-out : (o : Option ℕ) (p : Page) → unlessOut o p ≡ Branch n → o ≡ none
+        none-out : (o : Option ℕ) (p : Page) → breachIfOut o p ≡ Branch n → o ≡ none
         none-out none p h = refl
         none-out (some j) p h = absurd (let z : _≡_ {A = ℕ} 0 1 = cc in omega arith)
 
@@ -140,11 +140,11 @@ module _ (N : ℕ) (view : ℕ → Bool → View Value) (left : ℕ) (t : Bool) 
     unfolding metOf
     meet-deep e = rw e
 
-    met-at : 0 < left → metOf N view left t q low high before ≡ cond (inside N q) (cond before (Breach 8 0) (pageOf (view q t) low high)) (Breach 2 0)
+    met-at : 0 < left → metOf N view left t q low high before ≡ cond (inside N q) (cond before (Breach 8 0) (judgePageOf (view q t) low high)) (Breach 2 0)
     unfolding metOf
     met-at l = go left l
       where
-        go : (d : ℕ) → 0 < d → metOf N view d t q low high before ≡ cond (inside N q) (cond before (Breach 8 0) (pageOf (view q t) low high)) (Breach 2 0)
+        go : (d : ℕ) → 0 < d → metOf N view d t q low high before ≡ cond (inside N q) (cond before (Breach 8 0) (judgePageOf (view q t) low high)) (Breach 2 0)
         go zero h = absurd (omega arith)
         go (suc d) h = refl
 
@@ -154,7 +154,7 @@ module _ (N : ℕ) (view : ℕ → Bool → View Value) (left : ℕ) (t : Bool) 
     pub meet-twice : 0 < left → inside N q ≡ true → before ≡ true → metOf N view left t q low high before ≡ Breach 8 0
     meet-twice l i b = met-at l ∙ rw (i, b)
 
-    pub meet-page : 0 < left → inside N q ≡ true → before ≡ false → metOf N view left t q low high before ≡ pageOf (view q t) low high
+    pub meet-page : 0 < left → inside N q ≡ true → before ≡ false → metOf N view left t q low high before ≡ judgePageOf (view q t) low high
     meet-page l i b = met-at l ∙ rw (i, b)
 
   -- whether it was reached before matters only inside the image
@@ -163,7 +163,7 @@ module _ (N : ℕ) (view : ℕ → Bool → View Value) (left : ℕ) (t : Bool) 
   met-same a b h = levels left
     where
       within : (i : Bool) → inside N q ≡ i
-          → cond i (cond a (Breach 8 0) (pageOf (view q t) low high)) (Breach 2 0) ≡ cond i (cond b (Breach 8 0) (pageOf (view q t) low high)) (Breach 2 0)
+          → cond i (cond a (Breach 8 0) (judgePageOf (view q t) low high)) (Breach 2 0) ≡ cond i (cond b (Breach 8 0) (judgePageOf (view q t) low high)) (Breach 2 0)
       within true e = rw (h e)
       within false e = refl
 
@@ -173,23 +173,23 @@ module _ (N : ℕ) (view : ℕ → Bool → View Value) (left : ℕ) (t : Bool) 
 
   -- a verdict that is no breach is the page's own
   pub met-own : (before : Bool) (x : Page) → NoBreach x → metOf N view left t q low high before ≡ x
-      → (0 < left) × (inside N q ≡ true) × (before ≡ false) × (pageOf (view q t) low high ≡ x)
+      → (0 < left) × (inside N q ≡ true) × (before ≡ false) × (judgePageOf (view q t) low high ≡ x)
   unfolding metOf
   met-own before x n e = levels left e
     where
       breached : {A : Type 0} (r i : ℕ) → Breach r i ≡ x → A
       breached r i e = absurd (subst NoBreach (sym e) n)
 
-      met : (b : Bool) → before ≡ b → cond b (Breach 8 0) (pageOf (view q t) low high) ≡ x → (before ≡ false) × (pageOf (view q t) low high ≡ x)
+      met : (b : Bool) → before ≡ b → cond b (Breach 8 0) (judgePageOf (view q t) low high) ≡ x → (before ≡ false) × (judgePageOf (view q t) low high ≡ x)
       met true f e = breached 8 0 e
       met false f e = (f, e)
 
-      within : (i : Bool) → inside N q ≡ i → cond i (cond before (Breach 8 0) (pageOf (view q t) low high)) (Breach 2 0) ≡ x
-          → (inside N q ≡ true) × (before ≡ false) × (pageOf (view q t) low high ≡ x)
+      within : (i : Bool) → inside N q ≡ i → cond i (cond before (Breach 8 0) (judgePageOf (view q t) low high)) (Breach 2 0) ≡ x
+          → (inside N q ≡ true) × (before ≡ false) × (judgePageOf (view q t) low high ≡ x)
       within true f e = let m = met before refl e in (f, m .0, m .1)
       within false f e = breached 2 0 e
 
-      levels : (d : ℕ) → metOf N view d t q low high before ≡ x → (0 < d) × (inside N q ≡ true) × (before ≡ false) × (pageOf (view q t) low high ≡ x)
+      levels : (d : ℕ) → metOf N view d t q low high before ≡ x → (0 < d) × (inside N q ≡ true) × (before ≡ false) × (judgePageOf (view q t) low high ≡ x)
       levels zero e = breached 9 0 e
       levels (suc d) e = let w = within (inside N q) refl e in (omega arith, w .0, w .1, w .2)
 
@@ -201,12 +201,12 @@ module _ (N : ℕ) (view : ℕ → Bool → View Value) (left : ℕ) (t : Bool) 
         same : (k j : ℕ) → Breach k j ≡ Breach r i → fault k q j ≡ fault r q i
         same k j e = let a : k ≡ r = cc in let b : j ≡ i = cc in rw (a, b)
 
-        met : 0 < left → inside N q ≡ true → (b : Bool) → memb q vs ≡ b → cond b (Breach 8 0) (pageOf (view q t) low high) ≡ Breach r i
+        met : 0 < left → inside N q ≡ true → (b : Bool) → memb q vs ≡ b → cond b (Breach 8 0) (judgePageOf (view q t) low high) ≡ Breach r i
             → walk N view left t q low high vs ≡ fault r q i
         met l w true f e = walk-twice N view q t low high vs left l w f ∙ same 8 0 e
         met l w false f e = walk-breach N view q t low high vs left l w f r i e
 
-        within : 0 < left → (b : Bool) → inside N q ≡ b → cond b (cond (memb q vs) (Breach 8 0) (pageOf (view q t) low high)) (Breach 2 0) ≡ Breach r i
+        within : 0 < left → (b : Bool) → inside N q ≡ b → cond b (cond (memb q vs) (Breach 8 0) (judgePageOf (view q t) low high)) (Breach 2 0) ≡ Breach r i
             → walk N view left t q low high vs ≡ fault r q i
         within l true f e = met l f (memb q vs) refl e
         within l false f e = walk-out N view q t low high vs left l f ∙ same 2 0 e
@@ -227,28 +227,28 @@ module _ (N : ℕ) (view : ℕ → Bool → View Value) (left : ℕ) (t : Bool) 
         walk-branch N view q t low high vs left (m .0) (m .1) (m .2) n cs f (m .3)
 
 -- a page that is a branch, by its verdict
-pub page-branch : (v : View Value) (low : Key) (high : Option Key) (n : ℕ) → pageOf v low high ≡ Branch n → (cs : List (Item ℕ)) × (v ≡ branch cs) × (length cs ≡ n)
-unfolding pageOf
+pub page-branch : (v : View Value) (low : Key) (high : Option Key) (n : ℕ) → judgePageOf v low high ≡ Branch n → (cs : List (Item ℕ)) × (v ≡ branch cs) × (length cs ≡ n)
+unfolding judgePageOf
 page-branch v low high n = go v
   where
-    branched : (o : Option ℕ) (p : Page) → unlessOut o p ≡ Branch n → p ≡ Branch n
+    branched : (o : Option ℕ) (p : Page) → breachIfOut o p ≡ Branch n → p ≡ Branch n
     branched none p h = h
     branched (some j) p h = absurd (let z : _≡_ {A = ℕ} 0 1 = cc in omega arith)
 
-    go : (v : View Value) → pageOf v low high ≡ Branch n → (cs : List (Item ℕ)) × (v ≡ branch cs) × (length cs ≡ n)
+    go : (v : View Value) → judgePageOf v low high ≡ Branch n → (cs : List (Item ℕ)) × (v ≡ branch cs) × (length cs ≡ n)
     go (bad s x) h = absurd (let z : _≡_ {A = ℕ} 0 1 = cc in omega arith)
     go (branch cs) h = let u = branched (firstOut low high (keys cs) 0) (Branch (length cs)) h in (cs, refl, cc)
     go (leaf es) h = absurd (let u = branched (firstOut low high (keys es) 0) (Leaf (length es)) h in let z : _≡_ {A = ℕ} 0 1 = cc in omega arith)
 
-pub page-leaf : (v : View Value) (low : Key) (high : Option Key) (n : ℕ) → pageOf v low high ≡ Leaf n → (es : List (Item Value)) × (v ≡ leaf es) × (length es ≡ n)
-unfolding pageOf
+pub page-leaf : (v : View Value) (low : Key) (high : Option Key) (n : ℕ) → judgePageOf v low high ≡ Leaf n → (es : List (Item Value)) × (v ≡ leaf es) × (length es ≡ n)
+unfolding judgePageOf
 page-leaf v low high n = go v
   where
-    leafed : (o : Option ℕ) (p : Page) → unlessOut o p ≡ Leaf n → p ≡ Leaf n
+    leafed : (o : Option ℕ) (p : Page) → breachIfOut o p ≡ Leaf n → p ≡ Leaf n
     leafed none p h = h
     leafed (some j) p h = absurd (let z : _≡_ {A = ℕ} 0 1 = cc in omega arith)
 
-    go : (v : View Value) → pageOf v low high ≡ Leaf n → (es : List (Item Value)) × (v ≡ leaf es) × (length es ≡ n)
+    go : (v : View Value) → judgePageOf v low high ≡ Leaf n → (es : List (Item Value)) × (v ≡ leaf es) × (length es ≡ n)
     go (bad s x) h = absurd (let z : _≡_ {A = ℕ} 0 1 = cc in omega arith)
     go (branch cs) h = absurd (let u = leafed (firstOut low high (keys cs) 0) (Branch (length cs)) h in let z : _≡_ {A = ℕ} 0 1 = cc in omega arith)
     go (leaf es) h = let u = leafed (firstOut low high (keys es) 0) (Leaf (length es)) h in (es, refl, cc)

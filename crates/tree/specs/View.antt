@@ -7,10 +7,8 @@ use Prim.Native.Nat.{ℕ, zero, suc, _+_, _*_}
 use lib.Dec.{leb}
 use lib.ListN.{length, drop}
 use Rattle.field.specs.Sizes.{sizeAllowed, countAllowed}
-use Rattle.page.specs.declared.rules.Verdict.{Verdict}
-use Rattle.page.specs.declared.rules.Verdict.the-variants.{Sound, Breach}
 use Rattle.page.specs.Layout.{countOf, isLeaf, pageOf, kindOf, keyOf, valueAt, valueSize}
-use Rattle.page.specs.PageRules.{headerBad, blockOf, checkOf}
+use Rattle.page.specs.PageRules.{afterCheck, headerBad, blockOf, checkOf}
 use Rattle.walk.specs.Tree.{Item, View, bad, branch, leaf}
 use Rattle.tree.specs.declared.lookup.Value.{Value}
 
@@ -38,12 +36,8 @@ abbrev pub elementsView : Bool → ℕ → List ℕ → View Value
 elementsView true start b = leaf (row (valueItem start b) (countOf b) 0)
 elementsView false start b = branch (row (childItem b) (countOf b) 0)
 
-abbrev pub checkedView : Verdict → View Value → View Value
-checkedView Sound v = v
-checkedView (Breach number element) v = bad number element
-
 unfoldable pub blockView : ℕ → Bool → List ℕ → View Value
-blockView start top b = checkedView (checkOf (isLeaf b) (top && isLeaf b) b) (elementsView (isLeaf b) start b)
+blockView start top b = afterCheck (checkOf (isLeaf b) (top && isLeaf b) b) bad (elementsView (isLeaf b) start b)
 
 -- ---- page q of an image, as the root or not: rule 4, then its block
 unfoldable pub viewOf : List ℕ → ℕ → ℕ → ℕ → Bool → View Value

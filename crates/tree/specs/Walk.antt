@@ -28,20 +28,20 @@ abbrev pub keyOut : Bool → List ℕ → Key → Option Key → ℕ → Bool
 keyOut isLeaf b low high i = not (inRange low high (keyOf isLeaf b i))
 
 -- rule 8, of a page that keeps the rules before it
-abbrev pub unlessOut : Option ℕ → Page → Page
-unlessOut none v = v
-unlessOut (some i) v = Breach 7 i
+abbrev pub breachIfOut : Option ℕ → Page → Page
+breachIfOut none v = v
+breachIfOut (some i) v = Breach 7 i
 
 -- a page's own verdict: the number of its children or entries
-unfoldable pub pageOf : View Value → Key → Option Key → Page
-pageOf (bad number element) low high = Breach number element
-pageOf (branch cs) low high = unlessOut (firstOut low high (keys cs) 0) (Branch (length cs))
-pageOf (leaf es) low high = unlessOut (firstOut low high (keys es) 0) (Leaf (length es))
+unfoldable pub judgePageOf : View Value → Key → Option Key → Page
+judgePageOf (bad number element) low high = Breach number element
+judgePageOf (branch cs) low high = breachIfOut (firstOut low high (keys cs) 0) (Branch (length cs))
+judgePageOf (leaf es) low high = breachIfOut (firstOut low high (keys es) 0) (Leaf (length es))
 
 -- the verdict on a page that the walk meets with `left` levels to spend, reached before or not: rules 1 to 3 come before its own
 unfoldable pub metOf : ℕ → (ℕ → Bool → View Value) → ℕ → Bool → ℕ → Key → Option Key → Bool → Page
 metOf N view zero top q low high before = Breach 9 0
-metOf N view (suc d) top q low high before = cond (inside N q) (cond before (Breach 8 0) (pageOf (view q top) low high)) (Breach 2 0)
+metOf N view (suc d) top q low high before = cond (inside N q) (cond before (Breach 8 0) (judgePageOf (view q top) low high)) (Breach 2 0)
 
 -- page q is a branch of c children, whose block lies within N pages and keeps the rules
 pub record Branching (image : List ℕ) (P N q c : ℕ) : Type 0 where

@@ -8,7 +8,7 @@ ghost use Rattle.page.specs.PageRules.{andThen, firstBad, checkOf, SoundBlock};
 ghost use Rattle.walk.specs.Tree.{under, inRange};
 ghost use Rattle.tree.specs.Sound.{SoundSizes};
 ghost use Rattle.tree.specs.View.{viewOf};
-ghost use Rattle.tree.specs.Walk.{upperOf, keyOut, pageOf};
+ghost use Rattle.tree.specs.Walk.{upperOf, keyOut, judgePageOf};
 use super::image::block;
 use super::image::from_page;
 use field::Order;
@@ -109,7 +109,7 @@ pub fn judge_page(
     bounded: bool,
 ) -> Page
     requires { ⌜ SoundSizes (now image) p n × (q < n) ⌝ }
-    ensures { λ r. ⌜ r ≡ pageOf (viewOf (now (image .entry)) p n q top) (now (low .entry)) (upperOf bounded (now (high .entry))) ⌝ }
+    ensures { λ r. ⌜ r ≡ judgePageOf (viewOf (now (image .entry)) p n q top) (now (low .entry)) (upperOf bounded (now (high .entry))) ⌝ }
 {
     if header_bad(from_page(image, p, n, q), n, q) {
         return Page::Breach(3, 0);

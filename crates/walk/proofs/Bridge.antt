@@ -2,11 +2,11 @@
 -- Assumes nothing.
 use Prim.Native.Nat.{ℕ, zero, suc, _+_, _<_}
 use native.Mathlib.Omega.{arith}
-use mathlib.Core.Path.{_≡_, refl, sym, ap, _∙_}
+use mathlib.Core.Path.{_≡_, refl, ap, _∙_}
 use mathlib.Core.List.{List, [], _∷_}
-use mathlib.Core.Bool.{Bool, true, false, cond}
+use mathlib.Core.Bool.{true, false}
 use mathlib.Core.Option.{Option, none, some}
-use Rattle.walk.specs.Tree.{Key, lower, same, under, inRange, Item, keys, At, Rising, firstOut, next, Answer, found, absent, childFor, seekFrom}
+use Rattle.walk.specs.Tree.{Key, lower, under, inRange, Item, keys, At, Rising, firstOut, next, found, absent, childFor, seekFrom}
 use Rattle.walk.proofs.KeyLaws.{lower-chain, lower-one-way, weak-chain, same-self, not-same, lower-not-same, rising-tail}
 use Rattle.walk.specs.Sound.{ChildAt}
 

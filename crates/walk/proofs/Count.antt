@@ -1,6 +1,6 @@
 -- Numbers of things: two lists of distinct pages with the same members are as long, and two sorted lists of slots with the same members are one list.
 -- Assumes nothing.
-use Prim.Native.Nat.{ℕ, zero, suc, _≤_}
+use Prim.Native.Nat.{ℕ, suc, _≤_}
 use native.Mathlib.Omega.{arith}
 use mathlib.Core.Path.{_≡_, refl, sym, ap, _∙_}
 use mathlib.Core.List.{List, [], _∷_}
@@ -8,8 +8,8 @@ use mathlib.Core.Bool.{Bool, true, false, cond, _||_}
 use mathlib.Core.Logic.{_⊎_, inl, inr, ⊎-elim}
 use lib.Dec.{eqb}
 use lib.ListN.{length}
-use borrow.Author.Tests.{eqb-true, eqb-false, eq-eqb}
-use Rattle.walk.specs.Tree.{Every, Key, lower, memb, Distinct}
+use borrow.Author.Tests.{eqb-true}
+use Rattle.walk.specs.Tree.{lower, memb, Distinct}
 use Rattle.walk.proofs.KeyLaws.{lower-not, lower-chain}
 use Rattle.walk.proofs.Slots.{Mem, every-mem, Slot, keyAt, Sorted}
 use Rattle.walk.proofs.Reach.{memb-head, memb-tail, memb-cases}

@@ -2,12 +2,12 @@
 -- Assumes what a page's own check has seen to, `Checked`.
 use Prim.Native.Nat.{ℕ, zero, suc, _≤_}
 use native.Mathlib.Omega.{arith}
-use mathlib.Core.Path.{_≡_, refl, sym, ap, _∙_}
-use mathlib.Core.List.{List, [], _∷_}
-use mathlib.Core.Bool.{Bool, true, false}
+use mathlib.Core.Path.{_≡_, sym, ap, _∙_}
+use mathlib.Core.List.{List}
+use mathlib.Core.Bool.{Bool, false}
 use mathlib.Core.Option.{Option}
 use mathlib.Core.Logic.{⊎-elim}
-use Rattle.walk.specs.Tree.{Key, Item, View, branch, leaf, At, lookup, lookPage, childFor, seekFrom, Below, here, down, Checked}
+use Rattle.walk.specs.Tree.{Key, Item, View, branch, leaf, At, lookup, lookPage, seekFrom, Below, here, down, Checked}
 use Rattle.walk.proofs.Slots.{Slot}
 use Rattle.walk.proofs.Walked.{Walked, atLeaf, atBranch, WalkedAll, done, more}
 use Rattle.walk.proofs.Search.{lookup-at}

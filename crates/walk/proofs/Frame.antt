@@ -1,12 +1,12 @@
 -- The frame: a lookup and a walk read no page that is not reached. Where two views agree on all that are, they answer alike.
 -- Assumes nothing, not even that a walk passes.
 use Prim.Native.Nat.{ℕ, zero, suc, _+_}
-use mathlib.Core.Path.{_≡_, refl, sym, ap, _∙_}
+use mathlib.Core.Path.{_≡_, refl, ap, _∙_}
 use mathlib.Core.List.{List, [], _∷_}
 use mathlib.Core.Bool.{Bool, true, false, cond}
-use mathlib.Core.Option.{Option, none, some}
+use mathlib.Core.Option.{Option, none}
 use mathlib.Core.Logic.{_⊎_, inl, inr, ⊎-elim}
-use Rattle.walk.specs.Tree.{Key, under, Item, View, bad, branch, leaf, keys, At, memb, inside, Verdict, pass, fault, andThen, firstOut, unlessOut, next, walkAll, walkPage, walk, Answer, refused, childFor, lookPage, lookup, Below, here, down, Walker}
+use Rattle.walk.specs.Tree.{Key, under, Item, View, bad, branch, leaf, keys, At, memb, inside, Verdict, pass, fault, ifPassed, firstOut, unlessOut, next, walkAll, walkPage, walk, Answer, refused, childFor, lookPage, lookup, Below, here, down, Walker}
 use Rattle.walk.proofs.KeyLaws.{under-some}
 
 -- the child for a key is a child, where there is one
@@ -30,12 +30,12 @@ all-frame : (cs : List (Item ℕ)) (walker walker′ : Walker)
 unfolding walkAll
 all-frame [] walker walker′ h high n vs = refl
 all-frame (c ∷ cs) walker walker′ h high n vs =
-    ap (λ (v : Verdict). andThen v (λ m ws. walkAll walker′ cs high (n + m) ws)) (h 0 c refl (c .key) (next cs high) vs)
+    ap (λ (v : Verdict). ifPassed v (λ m ws. walkAll walker′ cs high (n + m) ws)) (h 0 c refl (c .key) (next cs high) vs)
     ∙ go (walker (c .value) (c .key) (next cs high) vs) (λ m ws. all-frame cs walker walker′ (λ i d. h (suc i) d) high (n + m) ws)
   where
     go : (v : Verdict)
         → ((m : ℕ) (ws : List ℕ) → walkAll walker′ cs high (n + m) ws ≡ walkAll walker cs high (n + m) ws)
-        → andThen v (λ m ws. walkAll walker′ cs high (n + m) ws) ≡ andThen v (λ m ws. walkAll walker cs high (n + m) ws)
+        → ifPassed v (λ m ws. walkAll walker′ cs high (n + m) ws) ≡ ifPassed v (λ m ws. walkAll walker cs high (n + m) ws)
     go (pass m ws) r = r m ws
     go (fault r p e) q = refl
 

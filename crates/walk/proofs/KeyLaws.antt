@@ -1,24 +1,19 @@
 -- The laws of `lower` and `same`, and of ranges of keys. Assumes nothing.
-use Prim.Native.Nat.{ℕ, zero, suc}
+use Prim.Native.Nat.{ℕ}
 use native.Mathlib.Omega.{arith}
-use mathlib.Core.Path.{_≡_, refl, sym, ap, _∙_}
+use mathlib.Core.Path.{_≡_, refl, ap, _∙_}
 use mathlib.Core.List.{List, [], _∷_}
-use mathlib.Core.Bool.{Bool, true, false, not, _&&_, cond}
+use mathlib.Core.Bool.{Bool, true, false, not, _&&_}
 use mathlib.Core.Option.{Option, none, some}
 use Rattle.field.specs.declared.order.Order.{Order}
 use Rattle.field.specs.declared.order.Order.the-variants.{Lower, Equal, Higher}
 use Rattle.field.specs.Order.{orderOf}
-use Rattle.field.proofs.OrderLaws.{order-refl, order-equal, order-flip, flip, lower-trans}
-use Rattle.walk.specs.Tree.{Key, lower, same, isLower, isEqual, under, inRange, firstOut, Item, next, keys, Rising}
+use Rattle.field.proofs.OrderLaws.{is-lower, is-equal, order-refl, order-equal, order-flip, flip, lower-trans}
+use Rattle.walk.specs.Tree.{Key, lower, same, under, inRange, Item, next, keys, Rising}
 
 pub lower-order : (a b : Key) → lower a b ≡ true → orderOf a b ≡ Lower
 unfolding lower
-lower-order a b = go (orderOf a b)
-  where
-    go : (o : Order) → isLower o ≡ true → o ≡ Lower
-    go Lower e = refl
-    go Equal e = cc
-    go Higher e = cc
+lower-order a b = is-lower (orderOf a b)
 
 pub order-lower : (a b : Key) → orderOf a b ≡ Lower → lower a b ≡ true
 unfolding lower
@@ -85,12 +80,7 @@ same-self a b e = rw (e, order-refl b)
 
 pub same-eq : (a b : Key) → same a b ≡ true → a ≡ b
 unfolding same
-same-eq a b e = order-equal a b (go (orderOf a b) e)
-  where
-    go : (o : Order) → isEqual o ≡ true → o ≡ Equal
-    go Lower e = cc
-    go Equal e = refl
-    go Higher e = cc
+same-eq a b e = order-equal a b (is-equal (orderOf a b) e)
 
 pub not-same : (a b : Key) → (a ≡ b → ⊥) → same a b ≡ false
 not-same a b f = go (same a b) refl

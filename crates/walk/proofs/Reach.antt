@@ -1,15 +1,15 @@
 -- In a tree whose walk passes: the slots are those of the leaf entries reached, and the pages visited are those reached, each once, none deeper than the walk's levels.
 -- Assumes nothing.
-use Prim.Native.Nat.{ℕ, zero, suc, _+_, _≤_}
+use Prim.Native.Nat.{ℕ, zero, suc, _+_}
 use native.Mathlib.Omega.{arith}
-use mathlib.Core.Path.{_≡_, refl, sym, ap, _∙_}
-use mathlib.Core.List.{List, [], _∷_, _++_}
+use mathlib.Core.Path.{_≡_, refl}
+use mathlib.Core.List.{List, _∷_}
 use mathlib.Core.Bool.{Bool, true, false, _||_}
-use mathlib.Core.Option.{Option, none, some}
+use mathlib.Core.Option.{Option, none}
 use mathlib.Core.Logic.{_⊎_, inl, inr, ⊎-elim}
 use lib.Dec.{eqb}
 use borrow.Author.Tests.{eqb-true, eq-eqb}
-use Rattle.walk.specs.Tree.{Key, Item, View, bad, branch, leaf, keys, At, memb, Distinct, inside, Below, here, down, Reached, LeafEntry}
+use Rattle.walk.specs.Tree.{Key, Item, View, branch, leaf, At, memb, Distinct, Below, here, down, Reached, LeafEntry}
 use Rattle.walk.proofs.Slots.{Mem, mem-left, mem-right, mem-either, Slot, slots, slot-at, at-slot}
 use Rattle.walk.proofs.Walked.{Walked, WalkedAll, atLeaf, atBranch, done, more}
 

@@ -1,12 +1,12 @@
 -- In a tree whose walk passes: all leaf keys lie within the range, the leaf entries in order are sorted, and a lookup is a search of them all from the front.
 -- Assumes what a page's own check has seen to, `Checked`.
-use Prim.Native.Nat.{ℕ, zero, suc, _+_}
+use Prim.Native.Nat.{ℕ, suc, _+_}
 use native.Mathlib.Omega.{arith}
-use mathlib.Core.Path.{_≡_, refl, sym, ap, _∙_}
+use mathlib.Core.Path.{_≡_, refl, sym, _∙_}
 use mathlib.Core.List.{List, [], _∷_, _++_}
 use mathlib.Core.Bool.{Bool, true, false, cond}
 use mathlib.Core.Option.{Option, none, some}
-use Rattle.walk.specs.Tree.{Every, Key, lower, same, under, inRange, Item, View, bad, branch, leaf, keys, Rising, inside, firstOut, next, Answer, childFor, lookPage, lookup, Checked}
+use Rattle.walk.specs.Tree.{Every, Key, lower, same, under, inRange, Item, View, branch, leaf, keys, Rising, inside, firstOut, next, Answer, childFor, lookPage, lookup, Checked}
 use Rattle.walk.proofs.KeyLaws.{range-low, range-high, range-both, weak-chain, high-chain, under-chain, under-next, under-open, under-past, under-some, rising-tail, lower-not-same, higher-not-same}
 use Rattle.walk.proofs.Slots.{every-map, every-append, Slot, keyAt, slots, seek, Sorted, seek-slots, seek-past, seek-within, slots-sorted, sorted-append}
 use Rattle.walk.proofs.Walked.{Walked, WalkedAll, atLeaf, atBranch, done, more}

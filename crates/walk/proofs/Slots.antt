@@ -7,8 +7,8 @@ use mathlib.Core.List.{List, [], _∷_, _++_}
 use mathlib.Core.Bool.{Bool, true, false, cond}
 use mathlib.Core.Logic.{_⊎_, inl, inr, ⊎-elim}
 use lib.ListN.{length}
-use Rattle.walk.specs.Tree.{Every, Key, lower, same, Item, keys, At, Rising, Answer, refused, found, absent, seekFrom}
-use Rattle.walk.proofs.KeyLaws.{lower-chain, lower-not, same-self, same-eq, lower-not-same, higher-not-same, not-same, rising-tail}
+use Rattle.walk.specs.Tree.{Every, Key, lower, same, Item, keys, At, Rising, Answer, found, absent, seekFrom}
+use Rattle.walk.proofs.KeyLaws.{lower-chain, lower-not, same-self, same-eq, rising-tail}
 
 -- ---- any list
 module _ {A : Type 0} where

@@ -3,20 +3,20 @@
 use Prim.Native.Nat.{ℕ, zero, suc, _+_, _≤_, _<_}
 use native.Mathlib.Omega.{arith}
 use mathlib.Core.Path.{_≡_, refl, sym, ap, _∙_}
-use mathlib.Core.List.{List, [], _∷_, _++_}
-use mathlib.Core.Bool.{Bool, true, false, cond, _&&_, _||_}
-use mathlib.Core.Option.{Option, none, some}
-use mathlib.Core.Logic.{_⊎_, inl, inr, ⊎-elim, _↔_}
-use lib.Dec.{leb, ltb, eqb}
+use mathlib.Core.List.{List, [], _∷_}
+use mathlib.Core.Bool.{Bool, true, false}
+use mathlib.Core.Option.{Option, none}
+use mathlib.Core.Logic.{_⊎_, ⊎-elim, _↔_}
+use lib.Dec.{leb, ltb}
 use lib.ListN.{length}
 use borrow.Author.Tests.{leb-true, ltb-true, le-leb, lt-ltb}
-use Rattle.walk.specs.Tree.{Every, Key, inRange, Item, View, bad, branch, leaf, keys, At, memb, inside, Verdict, pass, fault, andThen, firstOut, unlessOut, next, walkAll, walkPage, walk, Below, here, down}
+use Rattle.walk.specs.Tree.{Every, Key, inRange, Item, View, bad, branch, leaf, keys, At, memb, inside, pass, firstOut, next, walkAll, walkPage, walk, Below, here, down}
 use Rattle.walk.proofs.KeyLaws.{and-left, and-right}
 use Rattle.walk.proofs.Slots.{Slot}
 use Rattle.walk.proofs.Walked.{Walked, WalkedAll, atLeaf, atBranch, done, more, walked}
 use Rattle.walk.proofs.Search.{all-in}
 use Rattle.walk.proofs.Reach.{memb-head, memb-tail, memb-cases, at-leaf, at-branch, kept, visited, only}
-use Rattle.walk.specs.Sound.{ChildAt, keysOn, Way, stop, turn, Fits, Sound}
+use Rattle.walk.specs.Sound.{ChildAt, Way, stop, turn, Fits, Sound}
 
 -- ---- children
 child-is : (cs : List (Item ℕ)) (high : Option Key) (i : ℕ) (c : Item ℕ) (end : Option Key) → ChildAt cs high i c end → At cs i c

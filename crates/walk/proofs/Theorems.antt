@@ -4,12 +4,12 @@ use Prim.Native.Nat.{ℕ}
 use native.Mathlib.Omega.{arith}
 use mathlib.Core.Path.{_≡_, refl, sym, ap, _∙_}
 use mathlib.Core.List.{List, []}
-use mathlib.Core.Bool.{Bool, true, false}
-use mathlib.Core.Option.{Option, none}
+use mathlib.Core.Bool.{Bool, true}
+use mathlib.Core.Option.{none}
 use mathlib.Core.Logic.{_↔_, ⊎-elim}
 use lib.ListN.{length}
 use Rattle.walk.specs.Tree.{Key, Item, View, memb, Distinct, pass, walk, Answer, refused, found, absent, lookup, Reached, LeafEntry, Checked}
-use Rattle.walk.proofs.Slots.{Mem, Slot, keyAt, seek, Sorted, Sought, hit, miss, sought, sorted-one}
+use Rattle.walk.proofs.Slots.{Mem, Slot, seek, Sorted, Sought, hit, miss, sought, sorted-one}
 use Rattle.walk.proofs.Walked.{Walked, walked}
 use Rattle.walk.proofs.Search.{sorted, searched}
 use Rattle.walk.proofs.Count.{no-longer, sorted-unique}

@@ -2,12 +2,12 @@
 -- Assumes nothing.
 use Prim.Native.Nat.{ℕ, zero, suc, _+_}
 use native.Mathlib.Omega.{arith}
-use mathlib.Core.Path.{_≡_, refl, sym, ap, _∙_}
+use mathlib.Core.Path.{_≡_, refl, sym, _∙_}
 use mathlib.Core.List.{List, [], _∷_, _++_}
 use mathlib.Core.Bool.{Bool, true, false, cond}
 use mathlib.Core.Option.{Option, none, some}
 use lib.ListN.{length, length-append}
-use Rattle.walk.specs.Tree.{Key, Item, View, bad, branch, leaf, keys, memb, inside, Verdict, pass, fault, andThen, firstOut, unlessOut, next, Walker, walkAll, walkPage, walk}
+use Rattle.walk.specs.Tree.{Key, Item, View, bad, branch, leaf, keys, memb, inside, Verdict, pass, fault, ifPassed, firstOut, unlessOut, next, walkAll, walkPage, walk}
 use Rattle.walk.proofs.Slots.{Slot, slots, length-slots}
 
 module _ {P : Type 0} (N : ℕ) (view : ℕ → Bool → View P) where
@@ -58,7 +58,7 @@ module _ {P : Type 0} (N : ℕ) (view : ℕ → Bool → View P) where
     where
       go : (v : Verdict)
           → walk N view d false (c .value) (c .key) (next cs high) vs ≡ v
-          → andThen v (λ k us. walkAll (walk N view d false) cs high (m + k) us) ≡ pass n ws
+          → ifPassed v (λ k us. walkAll (walk N view d false) cs high (m + k) us) ≡ pass n ws
           → ((k : ℕ) (us : List ℕ)
           → walkAll (walk N view d false) cs high (m + k) us ≡ pass n ws
           → (L : List (Slot P)) × WalkedAll d cs high us L ws × (n ≡ (m + k) + length L))

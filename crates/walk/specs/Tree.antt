@@ -7,23 +7,11 @@ use mathlib.Core.Bool.{Bool, true, false, not, _&&_, _||_, cond}
 use mathlib.Core.Option.{Option, none, some}
 use lib.Dec.{leb, ltb, eqb}
 use lib.ListN.{length}
-use Rattle.field.specs.declared.order.Order.{Order}
-use Rattle.field.specs.declared.order.Order.the-variants.{Lower, Equal, Higher}
-use Rattle.field.specs.Order.{orderOf}
+use Rattle.field.specs.Order.{orderOf, isLower, isEqual}
 
 -- ---- keys
 abbrev pub Key : Type 0
 Key = List ℕ
-
-abbrev pub isLower : Order → Bool
-isLower Lower = true
-isLower Equal = false
-isLower Higher = false
-
-abbrev pub isEqual : Order → Bool
-isEqual Lower = false
-isEqual Equal = true
-isEqual Higher = false
 
 unfoldable pub lower : Key → Key → Bool
 lower a b = isLower (orderOf a b)
@@ -92,9 +80,9 @@ pub data Verdict : Type 0 where
   pass : ℕ → List ℕ → Verdict
   fault : ℕ → ℕ → ℕ → Verdict
 
-abbrev pub andThen : Verdict → (ℕ → List ℕ → Verdict) → Verdict
-andThen (pass n vs) k = k n vs
-andThen (fault r p e) k = fault r p e
+abbrev pub ifPassed : Verdict → (ℕ → List ℕ → Verdict) → Verdict
+ifPassed (pass n vs) k = k n vs
+ifPassed (fault r p e) k = fault r p e
 
 -- the index of the first key out of range, counted from i
 unfoldable pub firstOut : Key → Option Key → List Key → ℕ → Option ℕ
@@ -118,7 +106,7 @@ Walker = ℕ → Key → Option Key → List ℕ → Verdict
 -- the children in order, after n entries
 unfoldable pub walkAll : Walker → List (Item ℕ) → Option Key → ℕ → List ℕ → Verdict
 walkAll go [] high n vs = pass n vs
-walkAll go (c ∷ cs) high n vs = andThen (go (c .value) (c .key) (next cs high) vs) (λ m ws. walkAll go cs high (n + m) ws)
+walkAll go (c ∷ cs) high n vs = ifPassed (go (c .value) (c .key) (next cs high) vs) (λ m ws. walkAll go cs high (n + m) ws)
 
 unfoldable pub walkPage : {P : Type 0} → Walker → View P → ℕ → Key → Option Key → List ℕ → Verdict
 walkPage go (bad r e) page low high vs = fault r page e

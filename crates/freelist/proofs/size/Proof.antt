@@ -7,7 +7,7 @@ use borrow.Author.Needs.{needs}
 use denote.Ref.{now}
 use Rattle.freelist.specs.declared.Measured.the-variants.{Bytes}
 use Rattle.freelist.specs.Answers.{measuredOf}
-use Rattle.freelist.specs.Freelist.{sizeOf}
+use Rattle.freelist.specs.Freelist.{listingSize}
 use Rattle.freelist.proofs.AnswerLaws.{refused-measured}
 use Rattle.freelist.proofs.FaultLaws.{Passes, passes}
 use Rattle.freelist.proofs.size.Statement.{statement}
@@ -29,11 +29,11 @@ add-t7 : tie.Need-add-t7
 add-t7 c = omega (arith, passed (c .before) .to, c .count-listed .ensures .1)
 
 returns-2 : tie.Need-returns-2
-unfolding sizeOf
+unfolding listingSize
 returns-2 c =
     let a = c .before .before .before .before .args in
     ap (λ (k : ℕ). Bytes (40 + 8 * k)) (c .count-listed .ensures .0)
-    ∙ ap (λ (b : ℕ). measuredOf b (sizeOf (now (a .table)) (a .n))) (sym (c .before .if1 .left) ∙ c .before .before .fault .ensures)
+    ∙ ap (λ (b : ℕ). measuredOf b (listingSize (now (a .table)) (a .n))) (sym (c .before .if1 .left) ∙ c .before .before .fault .ensures)
 
 pub size-spec : {M : Type 1} → statement M
 size-spec =

@@ -6,14 +6,14 @@ use borrow.Author.Needs.{needs}
 use native.Mathlib.Omega.{arith}
 use denote.Ref.{now}
 use Rattle.pack.specs.Plan.{range}
-use Rattle.size.specs.Size.{nodeLimit, counted, entriesSize}
+use Rattle.size.specs.Size.{nodeLimit, cappedSize, entriesSize}
 use Rattle.size.proofs.SizeLaws.{entries-next, entries-none, counted-most, counted-step, counted-end}
 use Rattle.size.proofs.add_entries.Statement.{statement}
 use Rattle.size.proofs.add_entries.Tie as tie
 
 abbrev Inv-loop : tie.InvT-loop
 Inv-loop b leaf from to sum total₀ i₀ total i =
-    (total ≤ nodeLimit + 1) × (counted (total + entriesSize leaf (range leaf b i to)) ≡ counted (sum + entriesSize leaf (range leaf b from to)))
+    (total ≤ nodeLimit + 1) × (cappedSize (total + entriesSize leaf (range leaf b i to)) ≡ cappedSize (sum + entriesSize leaf (range leaf b from to)))
 
 abbrev μ-loop : tie.MeasureT-loop
 μ-loop b leaf from to sum total₀ i₀ total i = to - i

@@ -2,7 +2,7 @@
 use mathlib.Core.Path.{ap, _∙_}
 use native.Mathlib.Omega.{arith}
 use denote.Ref.{now}
-use Rattle.size.specs.Size.{counted}
+use Rattle.size.specs.Size.{cappedSize}
 use Rattle.size.proofs.SizeLaws.{size-all, size-entries}
 use Rattle.size.proofs.node_size.Statement.{statement}
 use Rattle.size.proofs.node_size.Tie as tie
@@ -17,7 +17,7 @@ returns : tie.Need-returns
 returns c =
     let a = c .before .before .before .args in
     let all = size-all (a .leaf) (now (a .b)) (c .before .count .result) (c .before .count .ensures) in
-    c .add-entries .ensures ∙ ap counted (size-entries (a .leaf) _ ∙ all)
+    c .add-entries .ensures ∙ ap cappedSize (size-entries (a .leaf) _ ∙ all)
 
 pub node-size-spec : {M : Type 1} → statement M
 node-size-spec = tie.close (tie.spec count-requires add-entries-requires returns)

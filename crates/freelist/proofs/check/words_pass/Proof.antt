@@ -7,14 +7,14 @@ use borrow.Author.Needs.{needs}
 use denote.Ref.{now}
 use lib.Dec.{eqb}
 use Rattle.freelist.specs.Table.{isState, stateOf}
-use Rattle.freelist.specs.Pages.{all, row}
+use Rattle.freelist.specs.Pages.{all, pagesFrom}
 use Rattle.freelist.proofs.WordLaws.{words-turn, words-end}
 use Rattle.freelist.proofs.check.words_pass.Statement.{statement}
 use Rattle.freelist.proofs.check.words_pass.Tie as tie
 
 abbrev Inv-loop : tie.InvT-loop
 Inv-loop t m bad₀ i₀ bad i =
-    (eqb bad 0 && all (λ p. isState (stateOf t p)) (row (64 * i) (64 * m - 64 * i))) ≡ all (λ p. isState (stateOf t p)) (row 64 (64 * m - 64))
+    (eqb bad 0 && all (λ p. isState (stateOf t p)) (pagesFrom (64 * i) (64 * m - 64 * i))) ≡ all (λ p. isState (stateOf t p)) (pagesFrom 64 (64 * m - 64))
 
 abbrev μ-loop : tie.MeasureT-loop
 μ-loop t m bad₀ i₀ bad i = m - i

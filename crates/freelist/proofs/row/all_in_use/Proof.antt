@@ -8,13 +8,13 @@ use borrow.Author.Needs.{needs}
 use borrow.Author.Tests.{not-true, not-false}
 use denote.Ref.{now}
 use Rattle.freelist.specs.Table.{isInUse, stateOf}
-use Rattle.freelist.specs.Pages.{all, row}
+use Rattle.freelist.specs.Pages.{all, pagesFrom}
 use Rattle.freelist.proofs.PageLaws.{all-next, all-stop, all-none}
 use Rattle.freelist.proofs.row.all_in_use.Statement.{statement}
 use Rattle.freelist.proofs.row.all_in_use.Tie as tie
 
 abbrev Inv-loop : tie.InvT-loop
-Inv-loop t p count end i₀ i = (p ≤ i) × (all (λ k. isInUse (stateOf t k)) (row p count) ≡ all (λ k. isInUse (stateOf t k)) (row i (end - i)))
+Inv-loop t p count end i₀ i = (p ≤ i) × (all (λ k. isInUse (stateOf t k)) (pagesFrom p count) ≡ all (λ k. isInUse (stateOf t k)) (pagesFrom i (end - i)))
 
 abbrev μ-loop : tie.MeasureT-loop
 μ-loop t p count end i₀ i = end - i
@@ -22,7 +22,7 @@ abbrev μ-loop : tie.MeasureT-loop
 loop-holds : tie.Need-loop-holds Inv-loop μ-loop
 loop-holds c =
     let a = c .before .args in
-    (omega arith, ap (λ (x : ℕ). all (λ k. isInUse (stateOf (now (a .t)) k)) (row (a .p) x)) (sym (add-sub-cancel-left (a .p) (a .count))))
+    (omega arith, ap (λ (x : ℕ). all (λ k. isInUse (stateOf (now (a .t)) k)) (pagesFrom (a .p) x)) (sym (add-sub-cancel-left (a .p) (a .count))))
 
 returns : tie.Need-returns Inv-loop μ-loop
 returns c =

@@ -7,13 +7,13 @@ use native.Mathlib.Nat.{add-sub-cancel-left}
 use borrow.Author.Needs.{needs}
 use denote.Ref.{now}
 use lib.ListN.{length}
-use Rattle.freelist.specs.Pages.{row, each}
+use Rattle.freelist.specs.Pages.{pagesFrom, each}
 use Rattle.freelist.proofs.EachLaws.{each-next, each-none}
 use Rattle.freelist.proofs.row.put_all.Statement.{statement}
 use Rattle.freelist.proofs.row.put_all.Tie as tie
 
 abbrev Inv-loop : tie.InvT-loop
-Inv-loop t₀ p count s end i₀ t i = (length t ≡ length t₀) × (p ≤ i) × (each (λ old. s) (row i (end - i)) t ≡ each (λ old. s) (row p count) t₀)
+Inv-loop t₀ p count s end i₀ t i = (length t ≡ length t₀) × (p ≤ i) × (each (λ old. s) (pagesFrom i (end - i)) t ≡ each (λ old. s) (pagesFrom p count) t₀)
 
 abbrev μ-loop : tie.MeasureT-loop
 μ-loop t₀ p count s end i₀ t i = end - i
@@ -21,7 +21,7 @@ abbrev μ-loop : tie.MeasureT-loop
 loop-holds : tie.Need-loop-holds Inv-loop μ-loop
 loop-holds c =
     let a = c .before .args in
-    (refl, omega arith, ap (λ (x : ℕ). each (λ old. a .s) (row (a .p) x) (now (a .t))) (add-sub-cancel-left (a .p) (a .count)))
+    (refl, omega arith, ap (λ (x : ℕ). each (λ old. a .s) (pagesFrom (a .p) x) (now (a .t))) (add-sub-cancel-left (a .p) (a .count)))
 
 loop-again : tie.Need-loop-again Inv-loop μ-loop
 loop-again c =
@@ -30,7 +30,7 @@ loop-again c =
     let e = a .p + a .count in (
       c .before .before .put-state .kept .0 ∙ l .inv .0,
       omega arith,
-      ap (each (λ old. a .s) (row (l .i + 1) (e - (l .i + 1)))) (c .before .before .put-state .ensures)
+      ap (each (λ old. a .s) (pagesFrom (l .i + 1) (e - (l .i + 1)))) (c .before .before .put-state .ensures)
           ∙ sym (each-next (λ old. a .s) (l .i) e (l .t) (c .before .before .before .before .loop-test .taken)) ∙ l .inv .2,
     )
 

@@ -5,14 +5,14 @@ use Prim.Native.Nat.{_+_, _-_, _≤_}
 use native.Mathlib.Omega.{arith}
 use borrow.Author.Needs.{needs}
 use lib.ListN.{length}
-use Rattle.freelist.specs.Pages.{row, each}
+use Rattle.freelist.specs.Pages.{pagesFrom, each}
 use Rattle.freelist.specs.Freelist.{ripe, releaseTable}
 use Rattle.freelist.proofs.EachLaws.{each-next, each-none}
 use Rattle.freelist.proofs.row.release_all.Statement.{statement}
 use Rattle.freelist.proofs.row.release_all.Tie as tie
 
 abbrev Inv-loop : tie.InvT-loop
-Inv-loop t₀ n tx i₀ t i = (length t ≡ length t₀) × (2 ≤ i) × (each (ripe tx) (row i (n - i)) t ≡ releaseTable t₀ n tx)
+Inv-loop t₀ n tx i₀ t i = (length t ≡ length t₀) × (2 ≤ i) × (each (ripe tx) (pagesFrom i (n - i)) t ≡ releaseTable t₀ n tx)
 
 abbrev μ-loop : tie.MeasureT-loop
 μ-loop t₀ n tx i₀ t i = n - i
@@ -27,7 +27,7 @@ loop-again c =
     let l = c .before .before .before .before .before .loop in (
       c .before .before .release-page .kept .0 ∙ l .inv .0,
       omega arith,
-      ap (each (ripe (a .tx)) (row (l .i + 1) (a .n - (l .i + 1)))) (c .before .before .release-page .ensures)
+      ap (each (ripe (a .tx)) (pagesFrom (l .i + 1) (a .n - (l .i + 1)))) (c .before .before .release-page .ensures)
           ∙ sym (each-next (ripe (a .tx)) (l .i) (a .n) (l .t) (c .before .before .before .before .loop-test .taken)) ∙ l .inv .2,
     )
 

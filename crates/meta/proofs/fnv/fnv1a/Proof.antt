@@ -4,7 +4,7 @@ use Prim.Native.Nat.{ℕ, _+_, _-_, _≤_}
 use borrow.Author.Needs.{needs}
 use native.Mathlib.Omega.{arith}
 use lib.ListN.{length, drop, drop-of-length-le}
-use Rattle.meta.specs.Fnv.{hashFrom, stepOf, fnv1aOf}
+use Rattle.meta.specs.Fnv.{hashFrom, hashStep, fnv1aOf}
 use Rattle.meta.proofs.HashLaws.{slice-turn}
 use Rattle.meta.proofs.fnv.fnv1a.Statement.{statement}
 use Rattle.meta.proofs.fnv.fnv1a.Tie as tie
@@ -19,7 +19,7 @@ loop-again : tie.Need-loop-again Inv-loop μ-loop
 loop-again c =
     let l = c .before .before .before .loop in
     let s = c .before .before .before .before .before .args .s .now in
-    let e = c .step .ensures ∙ ap (stepOf (l .h)) (c .before .byte-at .ensures .0) in
+    let e = c .step .ensures ∙ ap (hashStep (l .h)) (c .before .byte-at .ensures .0) in
     (search needs, ap (λ (x : ℕ). hashFrom x (drop (l .i + 1) s)) e ∙ slice-turn s (l .h) (l .i) (omega arith) ∙ l .inv .1)
 
 returns : tie.Need-returns Inv-loop μ-loop

@@ -6,7 +6,7 @@ use borrow.Author.Needs.{needs}
 use denote.Ref.{now}
 use Rattle.page.specs.Layout.{idOf}
 use Rattle.page.proofs.SearchLaws.{found-at, missing-none}
-use Rattle.pack.specs.Plan.{entry}
+use Rattle.pack.specs.Plan.{entryWith}
 use Rattle.node.proofs.NodeLaws.{lent, lent-as}
 use Rattle.node.proofs.InsertLaws.{place-is}
 use Rattle.node.proofs.EditLaws.{same-edits, refused-edits}
@@ -29,7 +29,7 @@ returns c =
     let p = c .before .find .result in
     let there = found-at false b (now (a .key)) (p .at) (sym (c .before .find .ensures) ∙ place-is p true (c .if1 .taken)) in
     refused-edits false (idOf b) (a .p) (a .out .now) 14 0
-    (add-present (a .p) (a .out .now) b (entry (a .child) (now (a .key)) []) (present-at b (now (a .key)) (p .at) (there .0) (there .1)))
+    (add-present (a .p) (a .out .now) b (entryWith (a .child) (now (a .key)) []) (present-at b (now (a .key)) (p .at) (there .0) (there .1)))
 
 returns-2 : tie.Need-returns-2
 returns-2 c =
@@ -41,7 +41,7 @@ returns-2 c =
     let p = q .before .find .result in
     let sound = lent-as (a .p) b false (s .pre .0) (s .pre .1) in
     let none = missing-none false true b sound (now (a .key)) (p .at) (sym (q .before .find .ensures) ∙ place-is p false (q .if1 .left)) in
-    same-edits false (idOf b) (a .p) (a .out .now) (add-goes (a .p) (a .out .now) b (entry (a .child) (now (a .key)) []) (absent-all b (now (a .key)) none)) (w .put .ensures)
+    same-edits false (idOf b) (a .p) (a .out .now) (add-goes (a .p) (a .out .now) b (entryWith (a .child) (now (a .key)) []) (absent-all b (now (a .key)) none)) (w .put .ensures)
 
 pub add-branch-spec : {M : Type 1} → statement M
 add-branch-spec =

@@ -10,7 +10,7 @@ use denote.Ref.{now}
 use Rattle.page.specs.Layout.{idOf, countOf, keyOf}
 use Rattle.page.specs.PageRules.{SoundBlock}
 use Rattle.page.proofs.SearchLaws.{found-at, missing-none}
-use Rattle.pack.specs.Plan.{entry}
+use Rattle.pack.specs.Plan.{entryWith}
 use Rattle.node.specs.Neighbours.{notAbove, notBelow}
 use Rattle.node.proofs.NodeLaws.{lent, lent-as}
 use Rattle.node.proofs.InsertLaws.{place-is}
@@ -46,7 +46,7 @@ returns c =
     let p = c .before .before .find .result in
     let none = missing-none false true b (sound s) (now (a .original)) (p .at) (sym (c .before .before .find .ensures) ∙ place-is p false (not-true _ (c .if1 .taken))) in
     refused-edits false (idOf b) (a .p) (a .out .now) 14 0
-    (replace-absent (a .p) (a .out .now) b (entry (a .child) (now (a .key)) []) (now (a .original)) (absent-all b (now (a .original)) none))
+    (replace-absent (a .p) (a .out .now) b (entryWith (a .child) (now (a .key)) []) (now (a .original)) (absent-all b (now (a .original)) none))
 
 not-above-requires : tie.Need-not-above-requires
 not-above-requires c κs = (there c .0, sound (c .before .before .before .before .before .before .before .before))
@@ -60,7 +60,7 @@ returns-2 c =
     let h = there q in
     let broken : notAbove b (q .before .before .find .result .at) (now (a .key)) ≡ true = sym (c .before .not-above .ensures) ∙ c .if2 .taken in
     refused-edits false (idOf b) (a .p) (a .out .now) 14 0
-    (replace-breaks (a .p) (a .out .now) b (entry (a .child) (now (a .key)) []) (now (a .original)) (sound s) _ (h .0) (h .1) (rw broken))
+    (replace-breaks (a .p) (a .out .now) b (entryWith (a .child) (now (a .key)) []) (now (a .original)) (sound s) _ (h .0) (h .1) (rw broken))
 
 not-below-requires : tie.Need-not-below-requires
 not-below-requires c κs =
@@ -80,7 +80,7 @@ returns-3 c =
     let kept : notAbove b (q .before .before .find .result .at) (now (a .key)) ≡ false = sym (k .before .not-above .ensures) ∙ k .if2 .left in
     let broken : notBelow b (q .before .before .find .result .at) (now (a .key)) ≡ true = sym (c .before .not-below .ensures) ∙ c .if3 .taken in
     refused-edits false (idOf b) (a .p) (a .out .now) 14 0
-    (replace-breaks (a .p) (a .out .now) b (entry (a .child) (now (a .key)) []) (now (a .original)) (sound s) _ (h .0) (h .1) (rw (kept, broken)))
+    (replace-breaks (a .p) (a .out .now) b (entryWith (a .child) (now (a .key)) []) (now (a .original)) (sound s) _ (h .0) (h .1) (rw (kept, broken)))
 
 replace-requires : tie.Need-replace-requires
 replace-requires c κs =
@@ -99,7 +99,7 @@ returns-4 c =
     let b = now (a .b) in
     let h = there q in
     same-edits false (idOf b) (a .p) (a .out .now)
-    (replace-goes (a .p) (a .out .now) b (entry (a .child) (now (a .key)) []) (now (a .original)) (sound s) _ (h .0) (h .1)
+    (replace-goes (a .p) (a .out .now) b (entryWith (a .child) (now (a .key)) []) (now (a .original)) (sound s) _ (h .0) (h .1)
     (sym (k .before .not-above .ensures) ∙ k .if2 .left) (sym (t .before .not-below .ensures) ∙ t .if3 .left))
     (w .replace .ensures)
 

@@ -11,7 +11,7 @@ use Rattle.page.specs.Layout.{countOf, entriesOf}
 use Rattle.page.specs.PageRules.{lentCheckOf}
 use Rattle.page.proofs.TestLaws.{ltb-same}
 use Rattle.pack.specs.Pack.{nodeSize}
-use Rattle.size.specs.Size.{counted}
+use Rattle.size.specs.Size.{cappedSize}
 use Rattle.node.specs.Measure.{sizeIn, needsMergingOf}
 use Rattle.node.proofs.NodeLaws.{lent}
 use Rattle.node.proofs.measure.needs_merging.Statement.{statement}
@@ -49,7 +49,7 @@ returns-3 c =
     let b = now (a .b) in
     let n = c .node-size .result in
     let most = lent (a .p) b (passed (c .before .before .before .before)) .most in
-    let told : n ≡ counted (sizeIn b) = c .node-size .ensures ∙ ap (λ (l : Bool). counted (nodeSize l (entriesOf l b))) (c .before .is-leaf .ensures) in
+    let told : n ≡ cappedSize (sizeIn b) = c .node-size .ensures ∙ ap (λ (l : Bool). cappedSize (nodeSize l (entriesOf l b))) (c .before .is-leaf .ensures) in
     let e = c .before .before .before .count .ensures in
     rw (
       passed (c .before .before .before .before),

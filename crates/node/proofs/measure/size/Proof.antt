@@ -8,7 +8,7 @@ use Rattle.page.specs.declared.rules.Verdict.the-variants.{Sound}
 use Rattle.page.specs.Layout.{entriesOf}
 use Rattle.page.specs.PageRules.{lentCheckOf}
 use Rattle.pack.specs.Pack.{nodeSize}
-use Rattle.size.specs.Size.{counted}
+use Rattle.size.specs.Size.{cappedSize}
 use Rattle.node.specs.Measure.{sizeIn, sizeOf}
 use Rattle.node.proofs.NodeLaws.{lent, past-limit, within-limit}
 use Rattle.node.proofs.measure.size.Statement.{statement}
@@ -17,10 +17,10 @@ use Rattle.node.proofs.measure.size.Tie as tie
 passed : (c : tie.After-enum-told) → lentCheckOf (c .before .before .before .before .args .p) (now (c .before .before .before .before .args .b)) ≡ Sound
 passed c = sym (c .before .before .lent-check .ensures) ∙ c .enum-told .given .1
 
-told : (c : tie.After-node-size) → c .node-size .result ≡ counted (sizeIn (now (c .before .before .before .before .before .before .args .b)))
+told : (c : tie.After-node-size) → c .node-size .result ≡ cappedSize (sizeIn (now (c .before .before .before .before .before .before .args .b)))
 told c =
     let b = now (c .before .before .before .before .before .before .args .b) in
-    c .node-size .ensures ∙ ap (λ (l : Bool). counted (nodeSize l (entriesOf l b))) (c .before .is-leaf .ensures)
+    c .node-size .ensures ∙ ap (λ (l : Bool). cappedSize (nodeSize l (entriesOf l b))) (c .before .is-leaf .ensures)
 
 is-leaf-requires : tie.Need-is-leaf-requires
 is-leaf-requires c κs = let a = c .before .before .before .before .args in lent (a .p) (now (a .b)) (passed c) .long

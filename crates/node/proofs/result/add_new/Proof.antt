@@ -5,7 +5,7 @@ use borrow.Author.Needs.{needs}
 use denote.Ref.{now}
 use lib.ListN.{length}
 use Rattle.page.specs.Layout.{elementSize}
-use Rattle.size.specs.Size.{counted}
+use Rattle.size.specs.Size.{cappedSize}
 use Rattle.size.proofs.SizeLaws.{counted-end}
 use Rattle.node.proofs.ResultLaws.{some-size, none-size, counted-three}
 use Rattle.node.proofs.result.add_new.Statement.{statement}
@@ -17,7 +17,7 @@ returns c =
     let size = some-size (a .leaf) (a .plan) (now (a .key)) (now (a .value)) (c .before .before .before .before .if1 .taken) in
     counted-three (a .sum) (elementSize (a .leaf)) (length (now (a .key))) (length (now (a .value)))
     (rw (c .before .before .before .element-size .ensures) at (c .before .before .add-size .ensures)) (c .before .add-size2 .ensures) (c .add-size3 .ensures)
-    ∙ ap (λ n. counted (a .sum + n)) (sym size)
+    ∙ ap (λ n. cappedSize (a .sum + n)) (sym size)
 
 returns-2 : tie.Need-returns-2
 returns-2 c =

@@ -2,7 +2,7 @@
 use mathlib.Core.Path.{ap, sym, _∙_}
 use borrow.Author.Needs.{needs}
 use denote.Ref.{now}
-use Rattle.size.specs.Size.{counted, entriesSize}
+use Rattle.size.specs.Size.{cappedSize, entriesSize}
 use Rattle.pack.specs.Plan.{range, fresh}
 use Rattle.node.proofs.ResultLaws.{planned-size, counted-three}
 use Rattle.node.proofs.result.plan_size.Statement.{statement}
@@ -16,7 +16,7 @@ returns c =
     counted-three 40 (entriesSize (a .leaf) (range (a .leaf) (now (a .b)) (p .first) (p .stop)))
     (entriesSize (a .leaf) (fresh p (now (a .key)) (now (a .value)))) (entriesSize (a .leaf) (range (a .leaf) (now (a .b)) (p .resume) (p .last)))
     (c .before .before .add-entries .ensures) (c .before .add-new .ensures) (c .add-entries2 .ensures)
-    ∙ ap counted (sym size)
+    ∙ ap cappedSize (sym size)
 
 pub plan-size-spec : {M : Type 1} → statement M
 plan-size-spec =

@@ -6,10 +6,11 @@ use native.Mathlib.Nat.{mul-one}
 use native.Mathlib.Omega.{arith}
 use lib.ListN.{length}
 use Rattle.field.specs.Run.{putAt}
+use Rattle.field.specs.Field.{flagOf}
 use Rattle.field.proofs.RunLaws.{put-nil}
 use Rattle.page.specs.Layout.{elementSize}
 use Rattle.pack.specs.Pack.{bodies}
-use Rattle.pack.specs.Plan.{one, fresh}
+use Rattle.pack.specs.Plan.{fresh}
 use Rattle.pack.proofs.PlanLaws.{some-table, some-bodies, some-length, none-table, none-bodies}
 use Rattle.pack.proofs.write.put_new.Statement.{statement}
 use Rattle.pack.proofs.write.put_new.Tie as tie
@@ -18,7 +19,7 @@ put-element-requires : tie.Need-put-element-requires
 put-element-requires c κs =
     let q = c .before in
     let a = q .before .before .before .before .args in
-    let s : elementSize (a .leaf) * one (a .plan .some) ≡ elementSize (a .leaf) = rw (q .if1 .taken) (mul-one (elementSize (a .leaf))) in
+    let s : elementSize (a .leaf) * flagOf (a .plan .some) ≡ elementSize (a .leaf) = rw (q .if1 .taken) (mul-one (elementSize (a .leaf))) in
     let l = some-length (a .plan) (a .key .now) (a .value .now) (q .if1 .taken) in
     omega arith
 

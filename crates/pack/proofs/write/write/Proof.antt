@@ -5,7 +5,8 @@ use borrow.Author.Needs.{needs}
 use native.Mathlib.Omega.{arith}
 use lib.ListN.{length}
 use Rattle.page.specs.Layout.{elementAt}
-use Rattle.pack.specs.Pack.{nodeSize, pagesNeeded, bodies}
+use Rattle.field.specs.Sizes.{pagesNeeded}
+use Rattle.pack.specs.Pack.{nodeSize, bodies}
 use Rattle.pack.specs.Plan.{planned, countIn}
 use Rattle.pack.proofs.PackLaws.{pack-put}
 use Rattle.pack.proofs.PlanLaws.{planned-length, planned-fits}

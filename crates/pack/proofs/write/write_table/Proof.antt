@@ -7,7 +7,8 @@ use native.Mathlib.Omega.{arith}
 use lib.ListN.{length}
 use Rattle.page.specs.Layout.{elementSize}
 use Rattle.pack.specs.Pack.{bodies}
-use Rattle.pack.specs.Plan.{range, fresh, one}
+use Rattle.field.specs.Field.{flagOf}
+use Rattle.pack.specs.Plan.{range, fresh}
 use Rattle.pack.proofs.PackLaws.{count-below}
 use Rattle.pack.proofs.PlanLaws.{table-parts, planned-bodies, planned-table}
 use Rattle.pack.proofs.write.write_table.Statement.{statement}
@@ -15,11 +16,11 @@ use Rattle.pack.proofs.write.write_table.Tie as tie
 
 -- the tables of the three parts stand before d, and their bodies after it
 record Room (s : tie.Start) : Type 0 where
-  tables : 32 + elementSize (s .args .leaf) * (s .args .plan .stop - s .args .plan .first) + elementSize (s .args .leaf) * one (s .args .plan .some)
+  tables : 32 + elementSize (s .args .leaf) * (s .args .plan .stop - s .args .plan .first) + elementSize (s .args .leaf) * flagOf (s .args .plan .some)
       + elementSize (s .args .leaf) * (s .args .plan .last - s .args .plan .resume) ≤ s .args .d
-  two : elementSize (s .args .leaf) * (s .args .plan .stop - s .args .plan .first + one (s .args .plan .some))
-      ≡ elementSize (s .args .leaf) * (s .args .plan .stop - s .args .plan .first) + elementSize (s .args .leaf) * one (s .args .plan .some)
-  count : s .args .plan .stop - s .args .plan .first + one (s .args .plan .some) ≤ s .args .d
+  two : elementSize (s .args .leaf) * (s .args .plan .stop - s .args .plan .first + flagOf (s .args .plan .some))
+      ≡ elementSize (s .args .leaf) * (s .args .plan .stop - s .args .plan .first) + elementSize (s .args .leaf) * flagOf (s .args .plan .some)
+  count : s .args .plan .stop - s .args .plan .first + flagOf (s .args .plan .some) ≤ s .args .d
   runs : s .args .d + length (bodies (range (s .args .leaf) (s .args .block .now) (s .args .plan .first) (s .args .plan .stop)))
       + length (bodies (fresh (s .args .plan) (s .args .key .now) (s .args .value .now)))
       + length (bodies (range (s .args .leaf) (s .args .block .now) (s .args .plan .resume) (s .args .plan .last))) ≤ length (s .args .out .now)
@@ -28,8 +29,8 @@ room : (s : tie.Start) → Room s
 room s =
     let a = s .args in
     let t = table-parts (a .leaf) (a .plan) in
-    let m = mul-add (elementSize (a .leaf)) (a .plan .stop - a .plan .first) (one (a .plan .some)) in
-    let n = count-below (a .leaf) (a .plan .stop - a .plan .first + one (a .plan .some)) in
+    let m = mul-add (elementSize (a .leaf)) (a .plan .stop - a .plan .first) (flagOf (a .plan .some)) in
+    let n = count-below (a .leaf) (a .plan .stop - a .plan .first + flagOf (a .plan .some)) in
     let b = planned-bodies (a .leaf) (a .block .now) (a .plan) (a .key .now) (a .value .now) in
     record { tables = omega arith; two = m; count = omega arith; runs = omega arith }
 

@@ -6,9 +6,9 @@ use borrow.Author.Needs.{needs}
 use native.Mathlib.Omega.{arith}
 use denote.Ref.{now}
 use Rattle.field.specs.declared.order.Order.{Order}
-use Rattle.field.specs.Order.{orderOf}
+use Rattle.field.specs.Order.{orderOf, isLower}
 use Rattle.page.specs.Layout.{keyOf}
-use Rattle.page.specs.PageRules.{keyBad, isLower}
+use Rattle.page.specs.PageRules.{keyBad}
 use Rattle.page.proofs.LayoutLaws.{element-room}
 use Rattle.page.proofs.RuleLaws.{key-test}
 use Rattle.page.proofs.rules.key_bad.Statement.{statement}

@@ -21,7 +21,7 @@ returns : tie.Need-returns
 returns c =
     let p = c .before .before in
     let w = p .before .before .before in
-    rw (w .before .before .before .before .deleted .given .1, sym (w .wide .ensures)) (p .give .ensures)
+    rw (w .before .before .before .before .deleted .given .1, sym (w .wide .ensures .0)) (p .give .ensures)
 
 returns-2 : tie.Need-returns-2
 returns-2 c =

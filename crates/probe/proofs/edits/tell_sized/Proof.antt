@@ -20,7 +20,7 @@ returns-3 c =
     let p = c .before .before in
     let w = p .before .before .before in
     let m = w .before .before in
-    rw (m .before .before .before .measure2 .given .1, m .merging2 .given .1, sym (w .bit .ensures)) (p .give .ensures)
+    rw (m .before .before .before .measure2 .given .1, m .merging2 .given .1, sym (w .flag .ensures)) (p .give .ensures)
 
 pub tell-sized-spec : {M : Type 1} → statement M
 tell-sized-spec =

@@ -2,7 +2,7 @@
 use mathlib.Core.Path.{refl, ap, _∙_}
 use Prim.Native.Nat.{ℕ}
 use borrow.Author.Needs.{needs}
-use Rattle.freelist.specs.Answers.{onDone, numberOf}
+use Rattle.freelist.specs.Answers.{onDone, answerNumber}
 use Rattle.freelist.specs.Freelist.{newTable}
 use Rattle.freelist.proofs.AnswerLaws.{number-of-answer}
 use Rattle.probe.proofs.free.tyvarmos_free_new.Statement.{statement}
@@ -13,7 +13,7 @@ returns c =
     let k = c .before .before .before .new .ensures in
     let a = c .before .before .before .before .before .before .before .args in
     let t = a .table .now in
-    let e = ap numberOf (k .0) ∙ number-of-answer _ in
+    let e = ap answerNumber (k .0) ∙ number-of-answer _ in
     (c .number-of .ensures ∙ e, k .1 ∙ ap (λ (x : ℕ). onDone x (newTable t) t) e, refl)
 
 pub tyvarmos-free-new-spec : {M : Type 1} → statement M

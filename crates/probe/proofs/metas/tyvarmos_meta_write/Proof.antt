@@ -11,13 +11,13 @@ use Rattle.answer.specs.Answer.{toldNumber, toldAnswer}
 use Rattle.answer.proofs.AnswerLaws.{short}
 use Rattle.meta.specs.declared.MetaWritten.{MetaWritten}
 use Rattle.meta.specs.declared.MetaWritten.the-variants.{Written, Refused}
-use Rattle.meta.specs.Meta.{metaOf, writeOf, writtenFields}
+use Rattle.meta.specs.Meta.{metaOf, writeOf, metaWrittenFields}
 use Rattle.probe.proofs.metas.tyvarmos_meta_write.Statement.{statement}
 use Rattle.probe.proofs.metas.tyvarmos_meta_write.Tie as tie
 
 -- a buffer too short for one field
 no-room : (a : MetaWritten) (answer : List ℕ) → length answer < 8
-    → (1 ≡ toldNumber (writtenFields a) answer) × (answer ≡ toldAnswer (writtenFields a) answer)
+    → (1 ≡ toldNumber (metaWrittenFields a) answer) × (answer ≡ toldAnswer (metaWrittenFields a) answer)
 no-room (Written hash) answer l = short 0 (hash ∷ []) answer l
 no-room (Refused number) answer l = short number (0 ∷ []) answer l
 
@@ -39,8 +39,8 @@ returns-2 c =
     let w = k .write-meta .ensures in
     let s = p .tell-written .ensures in
     let room : 8 ≤ length (a .answer .now) = omega (arith, k .before .before .if1 .left) in (
-      s .0 ∙ ap (λ (x : MetaWritten). toldNumber (writtenFields x) (a .answer .now)) (w .0),
-      s .1 ∙ ap (λ (x : MetaWritten). toldAnswer (writtenFields x) (a .answer .now)) (w .0),
+      s .0 ∙ ap (λ (x : MetaWritten). toldNumber (metaWrittenFields x) (a .answer .now)) (w .0),
+      s .1 ∙ ap (λ (x : MetaWritten). toldAnswer (metaWrittenFields x) (a .answer .now)) (w .0),
       rw (le-ltb (length (a .answer .now)) 8 room) (w .1),
     )
 

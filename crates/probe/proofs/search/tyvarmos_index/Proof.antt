@@ -10,7 +10,7 @@ returns c =
     let w = p .before .before .before in
     let k = w .before .before in
     let e = sym (k .before .before .index .ensures) ∙ k .place .given .1 in
-    rw (e, sym (w .bit .ensures)) (p .give .ensures)
+    rw (e, sym (w .flag .ensures)) (p .give .ensures)
 
 returns-2 : tie.Need-returns-2
 returns-2 c =

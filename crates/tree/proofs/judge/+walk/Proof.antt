@@ -22,7 +22,7 @@ use Rattle.walk.specs.Tree.{Key, inside, memb, next, walkAll, walk as walkOf, V
 use Rattle.tree.specs.declared.range.Page.{Page}
 use Rattle.tree.specs.declared.range.Page.the-variants.{Branch, Leaf}
 use Rattle.tree.specs.View.{row, childItem, viewOf}
-use Rattle.tree.specs.Walk.{upperOf, pageOf, metOf, Branching, childrenOf, Marks, Says}
+use Rattle.tree.specs.Walk.{upperOf, judgePageOf, metOf, Branching, childrenOf, Marks, Says}
 use Rattle.tree.proofs.LookupLaws.{inside-parts}
 use Rattle.tree.proofs.PageLaws.{told-branch, few-entries}
 use Rattle.tree.proofs.WalkLaws.{NoBreach, marks-with, count-more, met-same, met-own, met-breach, met-leaf, met-branch, says-fault, says-pass, never-both, says-passed, says-broken, next-upper, turn-passed, turn-broken, turn-done}
@@ -187,7 +187,7 @@ module _ (t : ℕ) where
       let q = c .before .before .before .before .child .result in
       NoBreach x → c .meet .result ≡ x
       → (0 < a .left) × (inside (a .n) q ≡ true) × (isMarked (l .loop .seen) q ≡ false)
-      × (pageOf (viewOf (now (a .image)) (a .p) (a .n) q false) (now (c .before .key .result)) (upperOf (c .before .before .has-upper .result) (now (c .before .before .before .upper .result))) ≡ x)
+      × (judgePageOf (viewOf (now (a .image)) (a .p) (a .n) q false) (now (c .before .key .result)) (upperOf (c .before .before .has-upper .result) (now (c .before .before .before .upper .result))) ≡ x)
   own c x n e =
       let l = c .before .before .before .before .before .before in
       let a = l .before .before .before .before .args in

@@ -14,7 +14,7 @@ use Rattle.tree.specs.declared.range.Page.the-variants.{Branch, Leaf}
 use Rattle.tree.specs.Judge.{afterTree, judgeOf}
 use Rattle.tree.specs.Sound.{SoundSizes}
 use Rattle.tree.specs.View.{viewOf}
-use Rattle.tree.specs.Walk.{pageOf, metOf}
+use Rattle.tree.specs.Walk.{judgePageOf, metOf}
 use Rattle.tree.proofs.LookupLaws.{inside-parts}
 use Rattle.tree.proofs.PageLaws.{told-branch}
 use Rattle.tree.proofs.PassesSound.{geometry-sizes, judge-geometry, judge-tree}
@@ -56,7 +56,7 @@ judged c w e =
 own : (c : tie.After-meet) (x : Page)
     → let a = c .before .before .before .before .before .args in
     NoBreach x → c .meet .result ≡ x
-    → (a .root < a .n) × (a .root < 32768) × (pageOf (viewOf (now (a .image)) (a .p) (a .n) (a .root) true) [] none ≡ x)
+    → (a .root < a .n) × (a .root < 32768) × (judgePageOf (viewOf (now (a .image)) (a .p) (a .n) (a .root) true) [] none ≡ x)
 own c x n e =
     let a = c .before .before .before .before .before .args in
     let o = met-own (a .n) (viewOf (now (a .image)) (a .p) (a .n)) 16 true (a .root) [] none false x n (sym (told c) ∙ e) in

@@ -8,11 +8,11 @@ use denote.Ref.{now}
 use lib.ListN.{length, drop}
 use Rattle.page.specs.declared.rules.Verdict.{Verdict}
 use Rattle.page.specs.Layout.{countOf}
-use Rattle.page.specs.PageRules.{headerBad}
-use Rattle.tree.specs.declared.range.Page.the-variants.{Branch, Leaf}
+use Rattle.page.specs.PageRules.{afterCheck, headerBad}
+use Rattle.tree.specs.declared.range.Page.the-variants.{Branch, Leaf, Breach}
 use Rattle.tree.specs.Walk.{upperOf}
 use Rattle.tree.proofs.ViewFrame.{header-ends}
-use Rattle.tree.proofs.PageLaws.{orBreach, header-page, leaf-page, branch-page}
+use Rattle.tree.proofs.PageLaws.{header-page, leaf-page, branch-page}
 use Rattle.tree.proofs.range.judge_page.Statement.{statement}
 use Rattle.tree.proofs.range.judge_page.Tie as tie
 
@@ -50,48 +50,48 @@ long c =
 leaf-told : (c : tie.After-judge-block)
     → let b = c .before .before .before in
     let a = b .before .before .before .before .before .before .before .args in
-    Rattle.tree.specs.Walk.pageOf (Rattle.tree.specs.View.viewOf (now (a .image)) (a .p) (a .n) (a .q) (a .top)) (now (a .low)) (upperOf (a .bounded) (now (a .high)))
-    ≡ orBreach (c .judge-block .result) (Leaf (countOf (now (b .block .result))))
+    Rattle.tree.specs.Walk.judgePageOf (Rattle.tree.specs.View.viewOf (now (a .image)) (a .p) (a .n) (a .q) (a .top)) (now (a .low)) (upperOf (a .bounded) (now (a .high)))
+    ≡ afterCheck (c .judge-block .result) Breach (Leaf (countOf (now (b .block .result))))
 leaf-told c =
     let b = c .before .before .before in
     let a = b .before .before .before .before .before .before .before .args in
     leaf-page (now (a .image)) (a .p) (a .n) (a .q) (a .top) (now (a .low)) (upperOf (a .bounded) (now (a .high))) (now (b .block .result)) (b .block .ensures .0) (good (b .before))
     (sym (c .before .before .is-leaf .ensures) ∙ c .before .if2 .taken)
-    ∙ ap (λ (v : Verdict). orBreach v (Leaf (countOf (now (b .block .result))))) (sym (c .judge-block .ensures))
+    ∙ ap (λ (v : Verdict). afterCheck v Breach (Leaf (countOf (now (b .block .result))))) (sym (c .judge-block .ensures))
 
 branch-told : (c : tie.After-judge-block2)
     → let b = c .before .before .before in
     let a = b .before .before .before .before .before .before .before .args in
-    Rattle.tree.specs.Walk.pageOf (Rattle.tree.specs.View.viewOf (now (a .image)) (a .p) (a .n) (a .q) (a .top)) (now (a .low)) (upperOf (a .bounded) (now (a .high)))
-    ≡ orBreach (c .judge-block2 .result) (Branch (countOf (now (b .block .result))))
+    Rattle.tree.specs.Walk.judgePageOf (Rattle.tree.specs.View.viewOf (now (a .image)) (a .p) (a .n) (a .q) (a .top)) (now (a .low)) (upperOf (a .bounded) (now (a .high)))
+    ≡ afterCheck (c .judge-block2 .result) Breach (Branch (countOf (now (b .block .result))))
 branch-told c =
     let b = c .before .before .before in
     let a = b .before .before .before .before .before .before .before .args in
     branch-page (now (a .image)) (a .p) (a .n) (a .q) (a .top) (now (a .low)) (upperOf (a .bounded) (now (a .high))) (now (b .block .result)) (b .block .ensures .0) (good (b .before))
     (sym (c .before .before .is-leaf .ensures) ∙ c .before .if2 .left)
-    ∙ ap (λ (v : Verdict). orBreach v (Branch (countOf (now (b .block .result))))) (sym (c .judge-block2 .ensures))
+    ∙ ap (λ (v : Verdict). afterCheck v Breach (Branch (countOf (now (b .block .result))))) (sym (c .judge-block2 .ensures))
 
 returns-2 : tie.Need-returns-2
 returns-2 c =
     let k = c .before .before .before in
-    sym (leaf-told k ∙ ap (λ (v : Verdict). orBreach v (Leaf (countOf (now (k .before .before .before .block .result))))) (c .before .number .given .1))
+    sym (leaf-told k ∙ ap (λ (v : Verdict). afterCheck v Breach (Leaf (countOf (now (k .before .before .before .block .result))))) (c .before .number .given .1))
 
 returns-3 : tie.Need-returns-3
 returns-3 c =
     let k = c .before .before .before in
     ap Leaf (c .count .ensures)
-    ∙ sym (leaf-told k ∙ ap (λ (v : Verdict). orBreach v (Leaf (countOf (now (k .before .before .before .block .result))))) (c .before .enum-told .given .1))
+    ∙ sym (leaf-told k ∙ ap (λ (v : Verdict). afterCheck v Breach (Leaf (countOf (now (k .before .before .before .block .result))))) (c .before .enum-told .given .1))
 
 returns-4 : tie.Need-returns-4
 returns-4 c =
     let k = c .before .before .before in
-    sym (branch-told k ∙ ap (λ (v : Verdict). orBreach v (Branch (countOf (now (k .before .before .before .block .result))))) (c .before .number2 .given .1))
+    sym (branch-told k ∙ ap (λ (v : Verdict). afterCheck v Breach (Branch (countOf (now (k .before .before .before .block .result))))) (c .before .number2 .given .1))
 
 returns-5 : tie.Need-returns-5
 returns-5 c =
     let k = c .before .before .before in
     ap Branch (c .count2 .ensures)
-    ∙ sym (branch-told k ∙ ap (λ (v : Verdict). orBreach v (Branch (countOf (now (k .before .before .before .block .result))))) (c .before .enum-told2 .given .1))
+    ∙ sym (branch-told k ∙ ap (λ (v : Verdict). afterCheck v Breach (Branch (countOf (now (k .before .before .before .block .result))))) (c .before .enum-told2 .given .1))
 
 pub judge-page-spec : {M : Type 1} → statement M
 judge-page-spec =
