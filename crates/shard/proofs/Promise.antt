@@ -3,7 +3,7 @@
 -- place that it tells are the entry's value (`value-told`); and with any bytes changed outside the blocks reached, it returns 0 and leaves the same answer
 -- (`outside-told`), and the bytes at that place are the same (`outside-value`).
 -- Assumes nothing.
-use mathlib.Core.Path.{_≡_, refl, sym, ap, _∙_}
+use mathlib.Core.Path.{_≡_, refl, ap, _∙_}
 use mathlib.Core.Bool.{true}
 use mathlib.Core.List.{List, [], _∷_, _++_}
 use Prim.Native.Nat.{ℕ, _*_, _≤_}
@@ -13,12 +13,12 @@ use Rattle.answer.specs.Answer.{fields, numberWith, answerWith, toldNumber, tol
 use Rattle.page.specs.Layout.{valueOf}
 use Rattle.page.specs.PageRules.{blockOf}
 use Rattle.walk.specs.Tree.{Key}
-use Rattle.tree.specs.declared.lookup.Looked.{Looked}
-use Rattle.tree.specs.declared.lookup.Looked.the-variants as looked
-use Rattle.tree.specs.declared.judge.Judged.{Judged}
-use Rattle.tree.specs.declared.judge.Judged.the-variants as judged
-use Rattle.tree.specs.Lookup.{lookupOf, valueIn, lookedNumber}
-use Rattle.tree.specs.Judge.{judgeOf, Passes, judgedNumber}
+use Rattle.lookup.specs.declared.Looked.{Looked}
+use Rattle.lookup.specs.declared.Looked.the-variants as looked
+use Rattle.judge.specs.declared.Judged.{Judged}
+use Rattle.judge.specs.declared.Judged.the-variants as judged
+use Rattle.lookup.specs.Lookup.{lookupOf, valueIn, lookedNumber}
+use Rattle.judge.specs.Judge.{judgeOf, Passes, judgedNumber}
 use Rattle.tree.specs.Holds.{Holds, valueHeld}
 use Rattle.tree.specs.Outside.{SameWithin}
 use Rattle.tree.specs.Demand3.{Demand3In}

@@ -11,13 +11,13 @@ use Rattle.meta.specs.declared.newest.Newest.{Newest}
 use Rattle.meta.specs.declared.newest.Newest.the-variants as newest
 use Rattle.meta.proofs.NewestLaws.{newest-numbered}
 use Rattle.walk.specs.Tree.{Key}
-use Rattle.tree.specs.declared.lookup.Fault.{Fault}
-use Rattle.tree.specs.declared.lookup.Looked.{Looked}
-use Rattle.tree.specs.declared.lookup.Looked.the-variants as looked
-use Rattle.tree.specs.declared.judge.Judged.{Judged}
-use Rattle.tree.specs.declared.judge.Judged.the-variants as judged
-use Rattle.tree.specs.Lookup.{lookupOf}
-use Rattle.tree.specs.Judge.{judgeOf}
+use Rattle.view.specs.declared.Fault.{Fault}
+use Rattle.lookup.specs.declared.Looked.{Looked}
+use Rattle.lookup.specs.declared.Looked.the-variants as looked
+use Rattle.judge.specs.declared.Judged.{Judged}
+use Rattle.judge.specs.declared.Judged.the-variants as judged
+use Rattle.lookup.specs.Lookup.{lookupOf}
+use Rattle.judge.specs.Judge.{judgeOf}
 use Rattle.tree.proofs.Numbers.{lookup-numbered, judge-numbered}
 use Rattle.shard.specs.Answer.{lookedFields, judgedFields}
 

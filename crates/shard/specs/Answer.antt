@@ -2,10 +2,10 @@
 -- Assumes nothing.
 use mathlib.Core.List.{List, [], _∷_}
 use Prim.Native.Nat.{ℕ}
-use Rattle.tree.specs.declared.lookup.Looked.{Looked}
-use Rattle.tree.specs.declared.lookup.Looked.the-variants as looked
-use Rattle.tree.specs.declared.judge.Judged.{Judged}
-use Rattle.tree.specs.declared.judge.Judged.the-variants as judged
+use Rattle.lookup.specs.declared.Looked.{Looked}
+use Rattle.lookup.specs.declared.Looked.the-variants as looked
+use Rattle.judge.specs.declared.Judged.{Judged}
+use Rattle.judge.specs.declared.Judged.the-variants as judged
 
 -- the number; found, kind, place, length, page, element
 abbrev pub lookedFields : Looked → List ℕ

@@ -1,24 +1,18 @@
 // The three calls of the shard server, as C functions over numbers and byte slices.
 ghost use mathlib.Core.Path.{_≡_};
-ghost use Rattle.tree.specs.Lookup.{lookupOf};
-ghost use Rattle.tree.specs.Judge.{judgeOf};
+ghost use Rattle.lookup.specs.Lookup.{lookupOf};
+ghost use Rattle.judge.specs.Judge.{judgeOf};
 ghost use Rattle.meta.specs.Newest.{newestOf, newestFields};
 ghost use Rattle.answer.specs.Answer.{toldNumber, toldAnswer};
 ghost use Rattle.shard.specs.Answer.{lookedFields, judgedFields};
 use answer::give;
+use field::number::wide;
+use judge::Judged;
+use judge::judge;
+use lookup::Looked;
+use lookup::lookup;
 use meta::newest::Newest;
 use meta::newest::newest_meta;
-use tree::Judged;
-use tree::Looked;
-use tree::judge::judge;
-use tree::lookup::lookup;
-
-// A byte as a u64.
-fn wide(x: u8) -> u64
-    ensures { λ r. ⌜ r ≡ x ⌝ }
-{
-    x as u64
-}
 
 // The number of a lookup's answer, whose fields stand in `answer`: found, kind, place, length, page, element.
 #[no_mangle]

@@ -14,11 +14,11 @@ use Rattle.walk.specs.Tree.{memb, Distinct}
 use Rattle.walk.proofs.Count.{no-longer}
 use Rattle.walk.proofs.Theorems.{Listing}
 use Rattle.walk.proofs.Theorems as tree
-use Rattle.tree.specs.declared.judge.Judged.the-variants.{Sound}
-use Rattle.tree.specs.View.{viewOf}
-use Rattle.tree.specs.Judge.{judgeOf}
+use Rattle.judge.specs.declared.Judged.the-variants.{Sound}
+use Rattle.view.specs.View.{viewOf}
+use Rattle.judge.specs.Judge.{judgeOf}
 use Rattle.tree.specs.Sound.{ReachedFrom}
-use Rattle.tree.proofs.ViewLaws.{checked}
+use Rattle.view.proofs.ViewLaws.{checked}
 use Rattle.tree.proofs.PassesSound.{Passed, judge-passed, not-visited, listed-sound}
 
 module _ (image : List ℕ) (P N root f entries blocks : ℕ) (passed : judgeOf image P N root f ≡ Sound entries blocks) where

@@ -14,23 +14,25 @@ use lib.Seq.{drop-drop, take-take, take-nil, length-take-le, getD-take, getD-dro
 use Rattle.page.specs.Layout.{countOf, overflowOf, isLeaf, valueAt, valueSize, valueOf}
 use Rattle.page.specs.PageRules.{headerBad, blockOf}
 use Rattle.walk.specs.Tree.{Key, Item, View, bad, branch, leaf, memb, Answer, refused, found, absent, lookup, same, seekFrom, Below, LeafEntry}
-use Rattle.walk.proofs.Depth.{Landed}
 use Rattle.walk.proofs.SoundLaws.{below-way}
 use Rattle.walk.proofs.Theorems as tree
-use Rattle.tree.specs.declared.lookup.Fault.{Fault}
-use Rattle.tree.specs.declared.lookup.Value.{Value}
-use Rattle.tree.specs.declared.lookup.Looked.{Looked}
-use Rattle.tree.specs.declared.lookup.Looked.the-variants.{Found, Absent, Refused}
-use Rattle.tree.specs.View.{geometryBad, valueItem, viewOf}
-use Rattle.tree.specs.Lookup.{faultAt, lookedOf, lookupOf, valueIn}
-use Rattle.tree.specs.Judge.{Passes}
+use Rattle.view.specs.declared.Fault.{Fault}
+use Rattle.view.specs.declared.Value.{Value}
+use Rattle.lookup.specs.declared.Looked.{Looked}
+use Rattle.lookup.specs.declared.Looked.the-variants.{Found, Absent, Refused}
+use Rattle.view.specs.Geometry.{geometryBad}
+use Rattle.view.specs.View.{valueItem, viewOf}
+use Rattle.view.specs.Fault.{faultAt}
+use Rattle.lookup.specs.Lookup.{lookedOf, lookupOf, valueIn}
+use Rattle.judge.specs.Judge.{Passes}
 use Rattle.tree.specs.Sound.{ReachedFrom}
 use Rattle.tree.specs.Outside.{SameWithin}
 use Rattle.tree.specs.Holds.{Holds, valueHeld}
 use Rattle.tree.specs.Demand3.{ByLeaf, Demand3In}
-use Rattle.tree.proofs.ViewLaws.{checked, LeafBlock, view-branch, view-leaf, row-at, at-row}
-use Rattle.tree.proofs.ViewFrame.{block-is, header-ends, block-end, block-length, same-view}
-use Rattle.tree.proofs.PassesSound.{Passed, judge-passed, sizes-geometry, passes-iff-sound}
+use Rattle.view.proofs.ViewLaws.{checked, LeafBlock, view-branch, view-leaf, row-at, at-row}
+use Rattle.view.proofs.ViewFrame.{block-is, header-ends, block-end, block-length, same-view}
+use Rattle.tree.proofs.PassesSound.{Passed, judge-passed, passes-iff-sound}
+use Rattle.view.proofs.GeometryLaws.{sizes-geometry}
 
 -- a part of a part
 drop-take : (i n : ℕ) (l : List ℕ) → drop i (take n l) ≡ take (n - i) (drop i l)

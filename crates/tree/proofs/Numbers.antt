@@ -1,7 +1,7 @@
 -- Theorem: every refusal of the judge and of lookup has a number above 0 (`judge-numbered`, `lookup-numbered`). So a judge that answers 0 has passed the
 -- image (`zero-passes`), and on an image that passed every lookup answers 0 (`lookup-zero`).
 -- Assumes nothing.
-use mathlib.Core.Path.{_≡_, refl, sym, ap, _∙_}
+use mathlib.Core.Path.{_≡_, refl, ap, _∙_}
 use mathlib.Core.Bool.{Bool, true, false, not, cond, _&&_}
 use mathlib.Core.List.{List, [], _∷_}
 use mathlib.Core.Option.{Option, none, some}
@@ -15,15 +15,17 @@ use Rattle.page.specs.Layout.{countOf, isLeaf}
 use Rattle.page.specs.PageRules.{andThen, breachIf, firstBad, tableBad, elementBad, keyBad, headerBad, blockOf, checkOf, afterCheck}
 use Rattle.page.proofs.FirstBreach.{breach-first}
 use Rattle.walk.specs.Tree.{Key, Item, View, bad, branch, leaf, keys, memb, inside, firstOut, unlessOut, next, Walker, pass, fault, ifPassed, walkAll, walkPage, walk, same, childFor, seekFrom, lookPage, Answer, refused, found, absent, lookup, Verdict as Walk}
-use Rattle.tree.specs.declared.lookup.Fault.{Fault}
-use Rattle.tree.specs.declared.lookup.Value.{Value}
-use Rattle.tree.specs.declared.lookup.Looked.{Looked}
-use Rattle.tree.specs.declared.lookup.Looked.the-variants as looked
-use Rattle.tree.specs.declared.judge.Judged.{Judged}
-use Rattle.tree.specs.declared.judge.Judged.the-variants.{Sound, Refused}
-use Rattle.tree.specs.View.{geometryBad, elementsView, blockView, viewOf}
-use Rattle.tree.specs.Lookup.{faultAt, lookedOf, lookupOf, lookedNumber}
-use Rattle.tree.specs.Judge.{idOutside, idNotAbove, idMarked, freeHeaderBad, idsOf, freelistOf, judgedOf, afterTree, judgeOf, Passes, judgedNumber}
+use Rattle.view.specs.declared.Fault.{Fault}
+use Rattle.view.specs.declared.Value.{Value}
+use Rattle.lookup.specs.declared.Looked.{Looked}
+use Rattle.lookup.specs.declared.Looked.the-variants as looked
+use Rattle.judge.specs.declared.Judged.{Judged}
+use Rattle.judge.specs.declared.Judged.the-variants.{Sound, Refused}
+use Rattle.view.specs.Geometry.{geometryBad}
+use Rattle.view.specs.View.{elementsView, blockView, viewOf}
+use Rattle.view.specs.Fault.{faultAt}
+use Rattle.lookup.specs.Lookup.{lookedOf, lookupOf, lookedNumber}
+use Rattle.judge.specs.Judge.{idOutside, idNotAbove, idMarked, freeHeaderBad, idsOf, freelistOf, judgedOf, afterTree, judgeOf, Passes, judgedNumber}
 use Rattle.tree.proofs.Demand3.{demand3}
 
 -- ---- breaches are numbered from 1

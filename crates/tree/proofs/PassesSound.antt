@@ -5,12 +5,11 @@ use mathlib.Core.Bool.{Bool, true, false, not, cond}
 use mathlib.Core.List.{List, [], _∷_}
 use mathlib.Core.Logic.{_↔_}
 use mathlib.Core.Option.{none}
-use Prim.Native.Nat.{ℕ, _+_, _-_, _*_, _%_, _≤_, _<_}
+use Prim.Native.Nat.{ℕ, _+_, _-_, _*_, _≤_, _<_}
 use native.Mathlib.Omega.{arith}
 use borrow.Author.Tests.{le-leb, lt-leb, leb-true, leb-false, lt-ltb, le-ltb, ltb-true, ltb-false, eq-eqb, ne-eqb, eqb-true, eqb-false, not-false}
 use lib.Dec.{leb, ltb, eqb}
 use lib.ListN.{length, drop}
-use Rattle.field.specs.Sizes.{sizeAllowed, countAllowed}
 use Rattle.page.specs.declared.rules.Verdict.{Verdict}
 use Rattle.page.specs.declared.rules.Verdict.the-variants as verdict
 use Rattle.page.specs.Layout.{idOf, typeOf, countOf, overflowOf}
@@ -20,46 +19,14 @@ use Rattle.page.proofs.TestLaws.{and-both, or-neither}
 use Rattle.walk.specs.Tree.{pass, fault, walk, inside, memb, Verdict as Walk}
 use Rattle.walk.proofs.SoundLaws as walk-laws
 use Rattle.walk.proofs.Theorems.{pages-exact}
-use Rattle.tree.specs.declared.judge.Judged.the-variants.{Sound, Refused}
-use Rattle.tree.specs.View.{geometryBad, viewOf}
-use Rattle.tree.specs.Lookup.{faultAt}
-use Rattle.tree.specs.Judge.{freeHeaderBad, idAt, idOutside, idNotAbove, idMarked, idsOf, freelistOf, judgedOf, afterTree, judgeOf, Passes}
-use Rattle.tree.specs.Sound.{SoundSizes, ReachedFrom, SoundFreelist, SoundImage}
-use Rattle.tree.proofs.ViewLaws.{checked}
-
--- ---- geometry
-module _ (image : List ℕ) (P N : ℕ) where
-  pub geometry-sizes : geometryBad image P N ≡ false → SoundSizes image P N
-  unfolding geometryBad
-  geometry-sizes e =
-      let a = and-both (sizeAllowed P) _ (not-false _ e) in
-      let s = and-both (leb 1024 P) _ (a .0) in
-      let t = and-both (leb P 65536) _ (s .1) in
-      let c = and-both (countAllowed N) _ (a .1) in
-      let d = and-both (leb 2 N) _ (c .0) in
-      record {
-        leastSize = leb-true _ _ (s .0);
-        mostSize = leb-true _ _ (t .0);
-        eights = eqb-true _ _ (t .1);
-        leastCount = leb-true _ _ (d .0);
-        mostCount = leb-true _ _ (d .1);
-        holds = leb-true _ _ (c .1);
-      }
-
-  pub sizes-geometry : SoundSizes image P N → geometryBad image P N ≡ false
-  unfolding geometryBad
-  sizes-geometry s =
-      rw (le-leb 1024 P (s .leastSize), le-leb P 65536 (s .mostSize), eq-eqb (P % 8) 0 (s .eights), le-leb 2 N (s .leastCount), le-leb N 32768 (s .mostCount), le-leb (N * P) (length image) (s .holds))
-
--- ---- geometry, then the tree
-module _ (image : List ℕ) (P N root f : ℕ) where
-  pub judge-geometry : geometryBad image P N ≡ true → judgeOf image P N root f ≡ Refused (faultAt 1 0 0)
-  unfolding judgeOf
-  judge-geometry e = rw e
-
-  pub judge-tree : geometryBad image P N ≡ false → judgeOf image P N root f ≡ afterTree image P N f (walk N (viewOf image P N) 16 true root [] none [])
-  unfolding judgeOf
-  judge-tree e = rw e
+use Rattle.judge.specs.declared.Judged.the-variants.{Sound, Refused}
+use Rattle.view.specs.Geometry.{geometryBad, SoundSizes}
+use Rattle.view.specs.View.{viewOf}
+use Rattle.view.proofs.GeometryLaws.{geometry-sizes, sizes-geometry}
+use Rattle.view.specs.Fault.{faultAt}
+use Rattle.judge.specs.Judge.{freeHeaderBad, idAt, idOutside, idNotAbove, idMarked, idsOf, freelistOf, judgedOf, afterTree, judgeOf, Passes}
+use Rattle.tree.specs.Sound.{ReachedFrom, SoundFreelist, SoundImage}
+use Rattle.view.proofs.ViewLaws.{checked}
 
 -- ---- a judge that passes, taken apart
 pub record Passed (image : List ℕ) (P N root f n k : ℕ) : Type 0 where

@@ -8,11 +8,11 @@ use Prim.Native.Nat.{ℕ, _≤_}
 use Rattle.page.specs.Layout.{isLeaf, valueOf}
 use Rattle.page.specs.PageRules.{blockOf}
 use Rattle.walk.specs.Tree.{Key}
-use Rattle.tree.specs.declared.lookup.Fault.{Fault}
-use Rattle.tree.specs.declared.lookup.Value.{Value}
-use Rattle.tree.specs.declared.lookup.Looked.{Looked}
-use Rattle.tree.specs.declared.lookup.Looked.the-variants.{Found, Absent, Refused}
-use Rattle.tree.specs.Lookup.{valueIn}
+use Rattle.view.specs.declared.Fault.{Fault}
+use Rattle.view.specs.declared.Value.{Value}
+use Rattle.lookup.specs.declared.Looked.{Looked}
+use Rattle.lookup.specs.declared.Looked.the-variants.{Found, Absent, Refused}
+use Rattle.lookup.specs.Lookup.{valueIn}
 use Rattle.tree.specs.Sound.{ReachedFrom}
 use Rattle.tree.specs.Outside.{SameWithin}
 use Rattle.tree.specs.Holds.{Holds, valueHeld}

@@ -7,7 +7,7 @@ use Prim.Native.Nat.{ℕ, _+_, _*_, _<_}
 use Rattle.page.specs.Layout.{countOf, isLeaf, kindOf, keyOf, valueAt, valueSize}
 use Rattle.page.specs.PageRules.{blockOf}
 use Rattle.walk.specs.Tree.{Key}
-use Rattle.tree.specs.declared.lookup.Value.{Value}
+use Rattle.view.specs.declared.Value.{Value}
 use Rattle.tree.specs.Sound.{ReachedFrom}
 
 -- the leaf on this page is reached from the root, and its entry i has the key

@@ -1,9 +1,4 @@
--- What the contracts of `tree` cite.
-pub mod View
-pub mod Lookup
-pub mod Step
-pub mod Judge
-pub mod Walk
+-- What a sound image is, and what is promised of one.
 pub mod Sound
 pub mod Outside
 pub mod Holds

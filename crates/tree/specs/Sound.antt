@@ -4,23 +4,15 @@ use mathlib.Core.Path.{_≡_}
 use mathlib.Core.Bool.{true}
 use mathlib.Core.List.{List, []}
 use mathlib.Core.Option.{none}
-use Prim.Native.Nat.{ℕ, _+_, _*_, _≤_, _<_, _%_}
+use Prim.Native.Nat.{ℕ, _+_, _*_, _≤_, _<_}
 use lib.ListN.{length, drop}
 use Rattle.page.specs.Layout.{idOf, typeOf, countOf, overflowOf}
 use Rattle.page.specs.PageRules.{blockOf}
 use Rattle.walk.specs.Tree.{Reached}
 use Rattle.walk.specs.Sound.{Sound}
-use Rattle.tree.specs.View.{viewOf}
-use Rattle.tree.specs.Judge.{idAt}
-
--- the sizes allowed, and an image that holds at least N times P bytes
-pub record SoundSizes (image : List ℕ) (P N : ℕ) : Type 0 where
-  pub leastSize : 1024 ≤ P
-  pub mostSize : P ≤ 65536
-  pub eights : P % 8 ≡ 0
-  pub leastCount : 2 ≤ N
-  pub mostCount : N ≤ 32768
-  pub holds : N * P ≤ length image
+use Rattle.view.specs.Geometry.{SoundSizes}
+use Rattle.view.specs.View.{viewOf}
+use Rattle.judge.specs.Judge.{idAt}
 
 -- page q is reached from the root
 abbrev pub ReachedFrom : List ℕ → ℕ → ℕ → ℕ → ℕ → Type 0

@@ -1,12 +1,1 @@
-// The judge of an image and the lookup in one.
-pub mod descent;
-pub mod freelist;
-pub mod image;
-pub mod judge;
-pub mod lookup;
-pub mod range;
-
-pub use judge::Judged;
-pub use lookup::Fault;
-pub use lookup::Looked;
-pub use lookup::Value;
+// The judge and the lookup of one tree: what a sound image is, what is promised of one, and the theorems; no code.

@@ -1,0 +1,66 @@
+-- Rule 8: a key against the ends of a range, and a block's keys, which rise.
+-- Assumes nothing.
+use mathlib.Core.Path.{_≡_, ap}
+use mathlib.Core.Bool.{Bool, true, false, not}
+use mathlib.Core.List.{List}
+use mathlib.Core.Logic.{⊎-elim}
+use mathlib.Core.Option.{Option}
+use Prim.Native.Nat.{ℕ, _-_, _≤_, _<_}
+use native.Mathlib.Nat.{eq-or-lt-of-le}
+use native.Mathlib.Omega.{arith}
+use borrow.Author.Tests.{not-false}
+use Rattle.field.specs.declared.order.Order.{Order}
+use Rattle.field.specs.Order.{orderOf, isLower}
+use Rattle.page.specs.declared.rules.Verdict.the-variants.{Sound}
+use Rattle.page.specs.Layout.{countOf, keyOf}
+use Rattle.page.specs.PageRules.{firstBad, SoundBlock}
+use Rattle.page.proofs.RuleLaws.{none-bad}
+use Rattle.page.proofs.EntryLaws.{rising-far}
+use Rattle.walk.specs.Tree.{Key, lower, under, inRange}
+use Rattle.walk.proofs.KeyLaws.{order-lower, lower-one-way, lower-not, weak-chain, under-chain, range-low, range-high, range-both}
+use Rattle.judge.specs.Walk.{upperOf, keyOut}
+
+-- ---- one key
+pub above-is : (k high : Key) (bounded : Bool) (o : Order) → bounded ≡ true → orderOf k high ≡ o → not (under k (upperOf bounded high)) ≡ not (isLower o)
+unfolding lower
+above-is k high bounded o e f = rw (e, f)
+
+module _ (low : Key) (high : Option Key) (k : Key) (o : Order) (e : orderOf k low ≡ o) where
+  pub out-low : isLower o ≡ true → not (inRange low high k) ≡ true
+  unfolding lower
+  out-low h = rw (e, h)
+
+  pub out-high : isLower o ≡ false → not (inRange low high k) ≡ not (under k high)
+  unfolding lower
+  out-high h = rw (e, h)
+
+-- ---- the keys of a sound block
+module _ (isLeaf emptyOk : Bool) (b : List ℕ) (sound : SoundBlock isLeaf emptyOk b) where
+  not-before : (i j : ℕ) → i ≤ j → j < countOf b → lower (keyOf isLeaf b j) (keyOf isLeaf b i) ≡ false
+  not-before i j l m =
+      ⊎-elim
+      (λ e. rw e (lower-not (keyOf isLeaf b j)))
+      (λ h. lower-one-way _ _ (order-lower _ _ (rising-far isLeaf emptyOk b sound i j h m)))
+      (eq-or-lt-of-le l)
+
+  -- where the first and the last are in range, all are
+  pub ends-in-range : (low : Key) (high : Option Key) → 0 < countOf b
+      → keyOut isLeaf b low high 0 ≡ false → keyOut isLeaf b low high (countOf b - 1) ≡ false
+      → firstBad (keyOut isLeaf b low high) 7 (countOf b) 0 ≡ Sound
+  ends-in-range low high filled first last =
+      none-bad (keyOut isLeaf b low high) 7 (countOf b) 0 (λ i l m. ap not (inside i (omega arith)))
+    where
+      up : (i : ℕ) → i < countOf b → under (keyOf isLeaf b i) high ≡ true
+      up i m =
+          let u = range-high low high (keyOf isLeaf b (countOf b - 1)) (not-false _ last) in
+          let l : i ≤ countOf b - 1 = omega arith in
+          ⊎-elim
+          (λ e. rw e u)
+          (λ h. under-chain (keyOf isLeaf b i) (keyOf isLeaf b (countOf b - 1)) high (order-lower _ _ (rising-far isLeaf emptyOk b sound i (countOf b - 1) h (omega arith))) u)
+          (eq-or-lt-of-le l)
+
+      inside : (i : ℕ) → i < countOf b → inRange low high (keyOf isLeaf b i) ≡ true
+      inside i m =
+          range-both low high (keyOf isLeaf b i)
+          (weak-chain low (keyOf isLeaf b 0) (keyOf isLeaf b i) (range-low low high (keyOf isLeaf b 0) (not-false _ first)) (not-before 0 i (omega arith) m))
+          (up i m)

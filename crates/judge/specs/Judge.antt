@@ -1,0 +1,82 @@
+-- 01, "A sound page, a sound image": what the judge answers. The tree first, then the freelist page.
+-- Assumes nothing.
+use mathlib.Core.Path.{_≡_}
+use mathlib.Core.Bool.{Bool, true, not, cond, _||_}
+use mathlib.Core.List.{List, [], _∷_}
+use mathlib.Core.Option.{none}
+use Prim.Native.Nat.{ℕ, _+_, _-_, _*_}
+use lib.Dec.{leb, ltb, eqb}
+use lib.ListN.{length, drop}
+use Rattle.field.specs.Field.{field}
+use Rattle.page.specs.declared.rules.Verdict.{Verdict}
+use Rattle.page.specs.declared.rules.Verdict.the-variants as verdict
+use Rattle.page.specs.Layout.{idOf, typeOf, countOf, overflowOf}
+use Rattle.page.specs.PageRules.{andThen, breachIf, firstBad, blockOf}
+use Rattle.walk.specs.Tree.{pass, fault, walk, inside, memb, Verdict as Walk}
+use Rattle.judge.specs.declared.Judged.{Judged}
+use Rattle.judge.specs.declared.Judged.the-variants.{Sound, Refused}
+use Rattle.view.specs.Fault.{faultAt}
+use Rattle.view.specs.Geometry.{geometryBad}
+use Rattle.view.specs.View.{viewOf}
+
+-- ---- the freelist page f, after a tree that reached the pages vs
+
+-- rule 4 with type 4 only: id differs, another type, or the block passes page N - 1
+unfoldable pub freeHeaderBad : ℕ → ℕ → List ℕ → Bool
+freeHeaderBad N f s = not (eqb (idOf s) f) || (not (eqb (typeOf s) 4) || leb N (f + overflowOf s))
+
+-- ids are u64 from 32
+abbrev pub idAt : List ℕ → ℕ → ℕ
+idAt b i = field 8 b (32 + 8 * i)
+
+-- each id from 2 to N - 1
+abbrev pub idOutside : ℕ → List ℕ → ℕ → Bool
+idOutside N b i = not (inside N (idAt b i))
+
+-- ids strictly rising
+abbrev pub idNotAbove : List ℕ → ℕ → Bool
+idNotAbove b i = not (ltb (idAt b (i - 1)) (idAt b i))
+
+-- no id marked
+abbrev pub idMarked : List ℕ → List ℕ → ℕ → Bool
+idMarked marked b i = memb (idAt b i) marked
+
+-- rule 5 with ids of 8 bytes, count 0 allowed; then the ids, each rule over all before the next
+unfoldable pub idsOf : ℕ → List ℕ → List ℕ → Verdict
+idsOf N marked b =
+    breachIf (ltb (length b) (32 + 8 * countOf b)) 4
+    (andThen (firstBad (idOutside N b) 5 (countOf b) 0)
+    (andThen (firstBad (idNotAbove b) 6 (countOf b - 1) 1) (firstBad (idMarked marked b) 8 (countOf b) 0)))
+
+-- rules 2 and 3, then 4, then its block; its own page is marked before its ids are tried
+unfoldable pub freelistOf : List ℕ → ℕ → ℕ → ℕ → List ℕ → Verdict
+freelistOf image P N f vs =
+    breachIf (not (inside N f)) 2
+    (breachIf (memb f vs) 8
+    (breachIf (freeHeaderBad N f (drop (f * P) image)) 3 (idsOf N (f ∷ vs) (blockOf image P f))))
+
+-- ---- the whole image
+abbrev pub judgedOf : Verdict → ℕ → ℕ → ℕ → Judged
+judgedOf verdict.Sound f entries blocks = Sound entries blocks
+judgedOf (verdict.Breach number element) f entries blocks = Refused (faultAt number f element)
+
+-- passing: the number of leaf entries, and of blocks reached, the freelist's included
+abbrev pub afterTree : List ℕ → ℕ → ℕ → ℕ → Walk → Judged
+afterTree image P N f (pass n vs) = judgedOf (freelistOf image P N f vs) f n (length (f ∷ vs))
+afterTree image P N f (fault number page element) = Refused (faultAt number page element)
+
+unfoldable pub judgeOf : List ℕ → ℕ → ℕ → ℕ → ℕ → Judged
+judgeOf image P N root f =
+    cond (geometryBad image P N) (Refused (faultAt 1 0 0))
+    (afterTree image P N f (walk N (viewOf image P N) 16 true root [] none []))
+
+-- the judge passes an image
+pub record Passes (image : List ℕ) (P N root f : ℕ) : Type 0 where
+  pub entries : ℕ
+  pub blocks : ℕ
+  pub passed : judgeOf image P N root f ≡ Sound entries blocks
+
+-- 01's number of the answer
+abbrev pub judgedNumber : Judged → ℕ
+judgedNumber (Sound entries blocks) = 0
+judgedNumber (Refused f) = f .number

@@ -1,0 +1,5 @@
+-- The laws on the way of a lookup.
+pub mod StepLaws
+pub mod FindLaws
+pub mod LookupLaws
+pub mod FoundWithin

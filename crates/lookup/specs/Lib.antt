@@ -1,0 +1,3 @@
+-- What the contracts of `lookup` cite.
+pub mod Lookup
+pub mod Step

@@ -1,0 +1,4 @@
+-- What the contracts of `view` cite.
+pub mod Geometry
+pub mod Fault
+pub mod View

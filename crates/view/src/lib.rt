@@ -1,0 +1,19 @@
+// A page of an image as the walk and the lookup view it, and what both answer with.
+pub mod image;
+
+// The most levels that a tree has.
+pub const LEVELS: usize = 16;
+
+// A refusal: 01's number, and the page and element that it names, 0 where there is none.
+pub struct Fault {
+    pub number: u64,
+    pub page: usize,
+    pub element: usize,
+}
+
+// An entry's kind, and the place in the image and the length of its value.
+pub struct Value {
+    pub kind: u8,
+    pub place: usize,
+    pub length: usize,
+}
