@@ -1,5 +1,6 @@
 //! The plain reading of 01 as a subject: its answers put into numbers and fields.
 
+use reading::block::Held;
 use reading::freelist::Table;
 use reading::meta::Meta;
 use reading::{edit, judge, layout, lookup, meta, newest, pack, search, split, words, Fault};
@@ -111,6 +112,14 @@ impl Subject for Reading {
 
     fn index_page(&self, block: &[u8], p: u64, index: u64, answer: &mut [u8]) -> u64 {
         give(answer, named(1), || Ok(vec![search::index_page(block, p, index)?]))
+    }
+
+    fn entry(&self, block: &[u8], p: u64, index: u64, answer: &mut [u8]) -> u64 {
+        give(answer, named(6), || {
+            let held = search::entry(block, p, index)?;
+            let fields = |h: Held| vec![1, h.kind, h.key_place, h.key_length, h.value_place, h.value_length];
+            Ok(held.map_or(vec![0; 6], fields))
+        })
     }
 
     fn size(&self, block: &[u8], p: u64, answer: &mut [u8]) -> u64 {

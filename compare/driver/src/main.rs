@@ -45,10 +45,6 @@ const PARTS: [Part; 15] = [
     Part { name: "short", against: "the crate", run: parts::short::run, rounds: 1 },
 ];
 
-/// Parts about the reading alone.
-const READING_PARTS: [Part; 1] =
-    [Part { name: "entries", against: "the crate", run: parts::page::entries, rounds: 300 }];
-
 struct Options {
     rounds: usize,
     seed: u64,
@@ -85,7 +81,6 @@ fn compare_all(options: &Options) -> u64 {
     let start = Instant::now();
     let mut total = Tally::default();
     compare(&by_reading::Reading, &PARTS, options, &mut total);
-    compare(&by_reading::Reading, &READING_PARTS, options, &mut total);
     #[cfg(feature = "proved")]
     compare(&proved::Proved, &PARTS, options, &mut total);
     println!("{:.1} s in all, seed {}", start.elapsed().as_secs_f64(), options.seed);
@@ -118,7 +113,7 @@ fn options() -> Options {
             "--seed" => options.seed = number(),
             "--record" => options.record = true,
             name => {
-                let known = PARTS.iter().chain(&READING_PARTS).any(|part| part.name == name);
+                let known = PARTS.iter().any(|part| part.name == name);
                 assert!(known, "no part {name}");
                 options.parts.push(word);
             }

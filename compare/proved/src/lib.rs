@@ -52,6 +52,10 @@ impl Subject for Proved {
         call!(tyvarmos_index_page: in block; of p; of index; out answer;)
     }
 
+    fn entry(&self, block: &[u8], p: u64, index: u64, answer: &mut [u8]) -> u64 {
+        call!(tyvarmos_entry: in block; of p; of index; out answer;)
+    }
+
     fn size(&self, block: &[u8], p: u64, answer: &mut [u8]) -> u64 {
         call!(tyvarmos_size: in block; of p; out answer;)
     }

@@ -24,6 +24,9 @@ extern "C" {
     pub fn tyvarmos_index_page(
         block: Bytes, block_len: usize, p: u64, index: u64, answer: BytesMut, answer_len: usize,
     ) -> u64;
+    pub fn tyvarmos_entry(
+        block: Bytes, block_len: usize, p: u64, index: u64, answer: BytesMut, answer_len: usize,
+    ) -> u64;
     pub fn tyvarmos_size(block: Bytes, block_len: usize, p: u64, answer: BytesMut, answer_len: usize) -> u64;
 
     pub fn tyvarmos_new_leaf(

@@ -19,6 +19,33 @@ pub struct Block<'a> {
     pub places: Vec<usize>,
 }
 
+/// A leaf entry's kind, and place and length of its key and value in the lent block.
+#[derive(Clone, Copy, Debug, PartialEq, Eq)]
+pub struct Held {
+    pub kind: u64,
+    pub key_place: u64,
+    pub key_length: u64,
+    pub value_place: u64,
+    pub value_length: u64,
+}
+
+impl Block<'_> {
+    /// The leaf entry at `index`, nothing past the end; 11 for a branch.
+    pub fn held(&self, index: u64) -> Result<Option<Held>, Fault> {
+        if !self.leaf {
+            return Err(refusal(11));
+        }
+        if index >= self.entries.len() as u64 {
+            return Ok(None);
+        }
+        let entry = self.entries[index as usize];
+        let key_place = self.places[index as usize] as u64;
+        let key_length = entry.key.len() as u64;
+        let value_length = entry.value.len() as u64;
+        Ok(Some(Held { kind: entry.tag, key_place, key_length, value_place: key_place + key_length, value_length }))
+    }
+}
+
 /// The block of `page` in an image of `n` pages, by rules 4 to 7.
 pub fn page_block(image: &[u8], p: u64, n: u64, page: u64, empty_allowed: bool) -> Result<Block<'_>, Fault> {
     let bytes = block_bytes(image, p, n, page, &[BRANCH, LEAF])?;

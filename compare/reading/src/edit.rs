@@ -1,19 +1,9 @@
 //! "Node edits": each reads one lent block and writes another (node.rs).
 
-use crate::block::{lent_block, Block, Entry};
+use crate::block::{lent_block, Block, Entry, Held};
 use crate::layout::{check_page_size, BUCKET_VALUE_SIZE, MAX_NODE_SIZE};
 use crate::pack::{node_size, write_result, Node};
 use crate::{refusal, Fault};
-
-/// What a delete removed: kind, and place and length of key and value in the lent block.
-#[derive(Clone, Copy, Debug, PartialEq, Eq)]
-pub struct Removed {
-    pub kind: u64,
-    pub key_place: u64,
-    pub key_length: u64,
-    pub value_place: u64,
-    pub value_length: u64,
-}
 
 /// The node size of a lent block.
 pub fn size(block: &[u8], p: u64) -> Result<u64, Fault> {
@@ -56,22 +46,11 @@ pub fn insert(block: &[u8], p: u64, key: &[u8], kind: u64, value: &[u8], out: &m
     write_result(&with_entry(block, Entry { tag: kind, key, value }), p, out)
 }
 
-/// Takes out the leaf entry at `index`.
-pub fn delete(block: &[u8], p: u64, index: u64, out: &mut [u8]) -> Result<(u64, Removed), Fault> {
+/// Takes out the leaf entry at `index`, and tells where it lies.
+pub fn delete(block: &[u8], p: u64, index: u64, out: &mut [u8]) -> Result<(u64, Held), Fault> {
     let mut block = lent_block(block, p)?;
-    if !block.leaf || index >= block.entries.len() as u64 {
-        return Err(refusal(11));
-    }
-    let entry = block.entries.remove(index as usize);
-    let key_place = block.places[index as usize] as u64;
-    let key_length = entry.key.len() as u64;
-    let removed = Removed {
-        kind: entry.tag,
-        key_place,
-        key_length,
-        value_place: key_place + key_length,
-        value_length: entry.value.len() as u64,
-    };
+    let removed = block.held(index)?.ok_or(refusal(11))?;
+    block.entries.remove(index as usize);
     let written = write_result(&Node { id: block.id, leaf: true, entries: block.entries }, p, out)?;
     Ok((written, removed))
 }

@@ -1,6 +1,6 @@
-//! "Search": `index` and `index_page` (page_node.rs).
+//! "Search": `index`, `index_page` and `val` (page_node.rs).
 
-use crate::block::{lent_block, Block, Entry};
+use crate::block::{lent_block, Block, Held};
 use crate::{refusal, Fault};
 
 impl Block<'_> {
@@ -33,8 +33,7 @@ pub fn index_page(block: &[u8], p: u64, index: u64) -> Result<u64, Fault> {
     Ok(block.entries[index as usize].tag)
 }
 
-/// The entry at `index` of a single lent block (the crate's `val`), or nothing past the end.
-pub fn entry(block: &[u8], p: u64, index: u64) -> Result<Option<Entry<'_>>, Fault> {
-    let block = lent_block(block, p)?;
-    Ok(block.entries.into_iter().nth(index as usize))
+/// The leaf entry at `index` of a single lent block (the crate's `val`), or nothing past the end.
+pub fn entry(block: &[u8], p: u64, index: u64) -> Result<Option<Held>, Fault> {
+    lent_block(block, p)?.held(index)
 }

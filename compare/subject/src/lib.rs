@@ -45,6 +45,8 @@ pub trait Subject {
     fn index(&self, block: &[u8], p: u64, key: &[u8], answer: &mut [u8]) -> u64;
     /// Fields: page number, page, element.
     fn index_page(&self, block: &[u8], p: u64, index: u64, answer: &mut [u8]) -> u64;
+    /// Fields: held; kind, key place, key length, value place, value length; page, element.
+    fn entry(&self, block: &[u8], p: u64, index: u64, answer: &mut [u8]) -> u64;
     /// Fields: size, pages needed, merging wanted, page, element.
     fn size(&self, block: &[u8], p: u64, answer: &mut [u8]) -> u64;
 

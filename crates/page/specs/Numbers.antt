@@ -1,7 +1,7 @@
 -- 01, "Numbers given back": the number and the values of each answer on a lent single block, whose faults name page 0.
 -- Assumes nothing.
 use mathlib.Core.List.{List, [], _∷_}
-use Prim.Native.Nat.{ℕ}
+use Prim.Native.Nat.{ℕ, _-_}
 use Rattle.field.specs.Field.{flagOf}
 use Rattle.page.specs.declared.search.Indexed.{Indexed}
 use Rattle.page.specs.declared.search.Indexed.the-variants as indexed
@@ -20,8 +20,8 @@ abbrev pub childFields : Child → List ℕ
 childFields (child.Page q) = 0 ∷ q ∷ 0 ∷ 0 ∷ []
 childFields (child.Refused number element) = number ∷ 0 ∷ 0 ∷ element ∷ []
 
--- `entry`: number, whether there is one, kind, where the key starts, where the value starts and ends, page, element
+-- `entry`: number, held, kind, key place, key length, value place, value length, page, element
 abbrev pub heldFields : Held → List ℕ
-heldFields (held.Here e) = 0 ∷ 1 ∷ e .kind ∷ e .key ∷ e .value ∷ e .end ∷ 0 ∷ 0 ∷ []
-heldFields held.Nothing = 0 ∷ 0 ∷ 0 ∷ 0 ∷ 0 ∷ 0 ∷ 0 ∷ 0 ∷ []
-heldFields (held.Refused number element) = number ∷ 0 ∷ 0 ∷ 0 ∷ 0 ∷ 0 ∷ 0 ∷ element ∷ []
+heldFields (held.Here e) = 0 ∷ 1 ∷ e .kind ∷ e .key ∷ (e .value - e .key) ∷ e .value ∷ (e .end - e .value) ∷ 0 ∷ 0 ∷ []
+heldFields held.Nothing = 0 ∷ 0 ∷ 0 ∷ 0 ∷ 0 ∷ 0 ∷ 0 ∷ 0 ∷ 0 ∷ []
+heldFields (held.Refused number element) = number ∷ 0 ∷ 0 ∷ 0 ∷ 0 ∷ 0 ∷ 0 ∷ 0 ∷ element ∷ []

@@ -16,7 +16,7 @@ use Rattle.node.specs.declared.edit.Deleted.{Deleted}
 use Rattle.node.specs.declared.edit.Deleted.the-variants as deleted
 use Rattle.node.specs.Edit.{Outcome, refused, node, answer, output, Edits, insertOf, deletedAnswer}
 use Rattle.node.specs.Numbers.{editedFields, deletedFields}
-use Rattle.probe.specs.Probe.{Ordered}
+use Rattle.probe.specs.Probe.{DeletedOrdered}
 use Rattle.probe.proofs.ToldLaws.{told-short, told-roomy}
 
 -- what a call of an edit promises of its number and of what it leaves, with this answer buffer
@@ -60,6 +60,6 @@ pub deleted-count : (r : Deleted) → length (deletedFields r) ≡ 9
 deleted-count (deleted.Removed bytes e) = refl
 deleted-count (deleted.Refused number element) = refl
 
-pub ordered : (P : ℕ) (b : List ℕ) (i : ℕ) (o : Outcome) → Ordered (deletedAnswer P b i o)
-ordered P b i (refused number element) = tt
-ordered P b i (node es) = (omega arith, omega arith)
+pub deleted-ordered : (P : ℕ) (b : List ℕ) (i : ℕ) (o : Outcome) → DeletedOrdered (deletedAnswer P b i o)
+deleted-ordered P b i (refused number element) = tt
+deleted-ordered P b i (node es) = (omega arith, omega arith)

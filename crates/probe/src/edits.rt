@@ -9,7 +9,7 @@ ghost use Rattle.node.specs.Numbers.{editedFields, deletedFields, unsizedFields
 ghost use Rattle.node.specs.Measure.{sizeOf, needsMergingOf};
 ghost use Rattle.node.specs.Edit.{output, newLeafOf, newBranchOf, insertOf, deleteOf, deletedAnswer, insertBranchOf};
 ghost use Rattle.node.specs.Edit.{answer as editedOf};
-ghost use Rattle.probe.specs.Probe.{Ordered};
+ghost use Rattle.probe.specs.Probe.{DeletedOrdered};
 use answer::give;
 use field::number::flag;
 use field::number::wide;
@@ -75,7 +75,7 @@ fn tell_edited(answer: &mut [u8], edited: Edited) -> u64
 
 // The number of `delete`'s answer, with its fields.
 fn tell_deleted(answer: &mut [u8], deleted: Deleted) -> u64
-    requires { ⌜ Ordered deleted ⌝ }
+    requires { ⌜ DeletedOrdered deleted ⌝ }
     ensures { λ r. ⌜ (r ≡ toldNumber (deletedFields deleted) (now (answer .entry)))
         × (now (answer .exit) ≡ toldAnswer (deletedFields deleted) (now (answer .entry))) ⌝ }
 {

@@ -58,6 +58,7 @@ fn on_blocks<'a>(s: &'a dyn Subject, leaf: &'a [u8], branch: &'a [u8]) -> Vec<Ca
     vec![
         ("index", 4, Box::new(|_, answer| s.index(leaf, P, &[5], answer))),
         ("index_page", 3, Box::new(|_, answer| s.index_page(branch, P, 0, answer))),
+        ("entry", 8, Box::new(|_, answer| s.entry(leaf, P, 0, answer))),
         ("size", 5, Box::new(|_, answer| s.size(leaf, P, answer))),
         ("new_leaf", 3, Box::new(|lent, answer| s.new_leaf(P, 5, &mut lent.out, answer))),
         ("new_branch", 3, Box::new(|lent, answer| s.new_branch(P, 5, b"k", 9, &mut lent.out, answer))),

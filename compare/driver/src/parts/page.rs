@@ -18,6 +18,9 @@ pub fn run(run: &mut Run) {
         for i in (0..content.items.len().min(12) + 3).chain([content.items.len()]) {
             index_page(run, round, &block, p, i);
         }
+        for i in (0..content.items.len() + 3).chain([usize::MAX]) {
+            entry(run, round, &block, p, i);
+        }
     }
 }
 
@@ -37,17 +40,14 @@ fn index_page(run: &mut Run, round: usize, block: &[u8], p: u64, i: usize) {
     }
 }
 
-/// The reading's `entry` beside the crate's `val`, which no C function stands for.
-pub fn entries(run: &mut Run) {
-    for round in 0..run.rounds {
-        let p = make::page_size(&mut run.rng);
-        let (block, content) = block::sound(&mut run.rng, true, p);
-        for i in 0..content.items.len().min(40) + 2 {
-            let entry = reading::search::entry(&block, p, i as u64).unwrap();
-            let got = entry.map(|e| Item { tag: e.tag, key: e.key.to_vec(), value: e.value.to_vec() });
-            for expected in search::val(&block, p, i) {
-                run.tally.same(got.clone(), expected, || format!("round {round}: entry {i}, P {p}"));
-            }
-        }
+fn entry(run: &mut Run, round: usize, block: &[u8], p: u64, i: usize) {
+    let got = ask::<8>(|answer| run.subject.entry(block, p, i as u64, answer));
+    let [held, tag, key, key_length, value, value_length, rest @ ..] = got.fields;
+    let part = |start, length| block[start as usize..(start + length) as usize].to_vec();
+    let item = (held == 1).then(|| Item { tag, key: part(key, key_length), value: part(value, value_length) });
+    let zeros = if item.is_some() { rest == [0; 2] } else { got.fields == [0; 8] };
+    for val in search::val(block, p, i) {
+        let expected = val.map_or((11, None, true), |item| (0, item, true));
+        run.tally.same((got.number, item.clone(), zeros), expected, || format!("round {round}: entry {i}, P {p}"));
     }
 }

@@ -24,9 +24,9 @@ pub fn index_page(block: &[u8], pagesize: u64, index: usize) -> [Option<u64>; 2]
     with_both(block, pagesize, |page_node| caught(|| page_node.index_page(index)))
 }
 
-/// `val` on the page and on the node; nothing past the end.
-pub fn val(block: &[u8], pagesize: u64, index: usize) -> [Option<Item>; 2] {
-    with_both(block, pagesize, |page_node| page_node.val(index).as_ref().map(item))
+/// `val` on the page and on the node, nothing where it panics; no item past the end.
+pub fn val(block: &[u8], pagesize: u64, index: usize) -> [Option<Option<Item>>; 2] {
+    with_both(block, pagesize, |page_node| caught(|| page_node.val(index).as_ref().map(item)))
 }
 
 fn with_both<T>(block: &[u8], pagesize: u64, call: impl Fn(&PageNode) -> T) -> [T; 2] {

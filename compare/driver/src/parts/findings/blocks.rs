@@ -71,7 +71,9 @@ fn short_bucket_value(run: &mut Run) {
     let item = Item { tag: 1, key: vec![5], value: (0..16).collect() };
     let mut block = write_content(&Content { leaf: true, items: vec![item.clone()] }, P, 2, 0);
     put(&mut block, 56, 15);
-    run.tally.same(search::val(&block, P, 0), [Some(item.clone()), Some(item)], || "finding 5, the crate".into());
+    run.tally.same(search::val(&block, P, 0), [Some(Some(item.clone())), Some(Some(item))], || {
+        "finding 5, the crate".into()
+    });
     let got = ask::<4>(|answer| run.subject.index(&block, P, &[5], answer));
     run.tally.same((got.number, got.fields[3]), (5, 0), || "finding 5".into());
 }

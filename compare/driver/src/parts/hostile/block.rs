@@ -9,8 +9,18 @@ use crate::make::{self, block, content};
 use crate::parts::{kept, Run, FILLER};
 use crate::rng::Rng;
 
-const CALLS: [&str; 9] =
-    ["index", "index_page", "size", "insert", "delete", "insert_branch", "a replacement", "split", "split_write"];
+const CALLS: [&str; 10] = [
+    "index",
+    "index_page",
+    "size",
+    "insert",
+    "delete",
+    "insert_branch",
+    "a replacement",
+    "split",
+    "split_write",
+    "entry",
+];
 
 /// A block and the arguments for every call on it.
 #[derive(Debug)]
@@ -90,7 +100,8 @@ impl Question {
             5 => ask(|answer| s.insert_branch(block, p, branch, &mut out, answer)),
             6 => ask(|answer| s.insert_branch(block, p, replacing, &mut out, answer)),
             7 => ask(|answer| s.split(block, p, &mut list, answer)),
-            _ => ask(|answer| s.split_write(block, p, 40, &ids, &mut out, answer)),
+            8 => ask(|answer| s.split_write(block, p, 40, &ids, &mut out, answer)),
+            _ => ask(|answer| s.entry(block, p, number, answer)),
         };
         Left { number: answer.number, fields: answer.fields, out, list }
     }

@@ -95,6 +95,7 @@ fn calls(subject: &dyn Subject, block: &[u8], p: u64, out: &mut [u8], cuts: &mut
     let branch = Branch { original: None, key: b"d", child: 9 };
     let index = ask::<4>(|answer| subject.index(block, p, b"b", answer));
     let page = ask::<3>(|answer| subject.index_page(block, p, 0, answer));
+    let entry = ask::<8>(|answer| subject.entry(block, p, 0, answer));
     let size = ask::<5>(|answer| subject.size(block, p, answer));
     let insert = ask::<3>(|answer| subject.insert(block, p, leaf, out, answer));
     let delete = ask::<8>(|answer| subject.delete(block, p, 0, out, answer));
@@ -104,6 +105,7 @@ fn calls(subject: &dyn Subject, block: &[u8], p: u64, out: &mut [u8], cuts: &mut
     vec![
         (index.number, index.fields[3]),
         (page.number, page.fields[2]),
+        (entry.number, entry.fields[7]),
         (size.number, size.fields[4]),
         (insert.number, insert.fields[2]),
         (delete.number, delete.fields[7]),

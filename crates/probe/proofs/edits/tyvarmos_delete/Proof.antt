@@ -7,7 +7,7 @@ use Rattle.page.specs.Layout.{idOf}
 use Rattle.node.specs.Edit.{output, deleteOf, deletedAnswer}
 use Rattle.node.specs.Numbers.{deletedFields}
 use Rattle.probe.proofs.ToldLaws.{told-short, told-roomy}
-use Rattle.probe.proofs.EditLaws.{deleted-count, ordered}
+use Rattle.probe.proofs.EditLaws.{deleted-count, deleted-ordered}
 use Rattle.probe.proofs.edits.tyvarmos_delete.Statement.{statement}
 use Rattle.probe.proofs.edits.tyvarmos_delete.Tie as tie
 
@@ -22,7 +22,7 @@ tell-deleted-requires : tie.Need-tell-deleted-requires
 tell-deleted-requires c κs =
     let q = c .before .before .before in
     let a = q .before .before .before .before .before .before .args in
-    rw (q .delete .ensures .0) (ordered (a .p) (now (a .block)) (a .index) (deleteOf (a .p) (now (a .block)) (a .index) (a .out .now)))
+    rw (q .delete .ensures .0) (deleted-ordered (a .p) (now (a .block)) (a .index) (deleteOf (a .p) (now (a .block)) (a .index) (a .out .now)))
 
 returns-2 : tie.Need-returns-2
 returns-2 c =
