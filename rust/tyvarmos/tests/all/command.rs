@@ -2,24 +2,25 @@
 
 use reading::block::Entry;
 use reading::pack::{pack, Node};
-use tyvarmos::{Fault, Image, Kind, Meta};
+use tyvarmos::{Image, Kind, Meta};
 
 use crate::breaches::{self, Breach};
 use crate::damage::damage;
 use crate::files::{run, run_on, Done, Temporary};
+use crate::json;
 use crate::listing::entries;
 use crate::rng::Rng;
 use crate::small::{self, put_meta};
 use crate::{example, EXAMPLE};
 
 /// The options that stand in for a meta page.
-fn options(sizes: [u64; 4]) -> Vec<String> {
+pub fn options(sizes: [u64; 4]) -> Vec<String> {
     let names = ["--page-size", "--page-count", "--root", "--freelist"];
     names.iter().zip(sizes).flat_map(|(name, number)| [name.to_string(), number.to_string()]).collect()
 }
 
 /// Runs the command on a file with words and these options.
-fn run_with(action: &str, file: &Temporary, words: &[&str], sizes: [u64; 4]) -> Done {
+pub fn run_with(action: &str, file: &Temporary, words: &[&str], sizes: [u64; 4]) -> Done {
     let options = options(sizes);
     let words: Vec<&str> = words.iter().copied().chain(options.iter().map(String::as_str)).collect();
     run_on(action, file, &words)
@@ -29,7 +30,7 @@ fn run_with(action: &str, file: &Temporary, words: &[&str], sizes: [u64; 4]) -> 
 fn judge_tells_what_is_sound() {
     let done = run(&["judge", EXAMPLE]);
     assert_eq!((done.status, done.err.as_str()), (0, ""));
-    assert!(done.text().starts_with(&format!("{EXAMPLE}: sound\n")));
+    assert!(done.text().starts_with(&format!("{EXAMPLE}: main tree sound, 4 buckets not judged\n")));
     assert!(done.text().contains("the main tree, root page 65, freelist page 66\n"));
     assert!(done.text().contains("146 pages of 1024 bytes\n"));
     assert!(done.text().contains("meta page 1, transaction 10, next number 4\n"));
@@ -46,17 +47,20 @@ fn judge_names_each_breach() {
     for breach in breaches::all() {
         let file = Temporary::file("breach", &breach.bytes);
         let done = run_with("judge", &file, &[], breach.sizes);
-        assert_eq!((done.status, done.err.as_str()), (2, ""));
-        let begin = format!("{}: refused\n  {}\n", file.path.display(), breach.sentence);
+        let (status, headline) = match breach.fault.is_limit() {
+            true => (3, "beyond the limits of this version"),
+            false => (2, "main tree refused"),
+        };
+        assert_eq!((done.status, done.err.as_str()), (status, ""));
+        let begin = format!("{}: {headline}\n  {}\n", file.path.display(), breach.sentence);
         assert!(done.text().starts_with(&begin), "{}", done.text());
         let json = run_with("judge", &file, &["--json"], breach.sizes);
-        let Fault { number, page, element, .. } = breach.fault;
-        let (number, page, element) = (number.code(), page.unwrap_or(0), element.unwrap_or(0));
-        let sentence = breach.sentence;
-        let named = format!("\"number\":{number},\"page\":{page},\"element\":{element}");
-        let end = format!("\"verdict\":\"refused\",{named},\"sentence\":\"{sentence}\"}}\n");
-        assert_eq!(json.status, 2);
-        assert!(json.text().ends_with(&end), "{}", json.text());
+        assert_eq!(json.status, status);
+        let told = json::parse(json.text());
+        assert_eq!(told["verdict"].text(), if status == 3 { "beyond_limits" } else { "refused" });
+        assert_eq!(told["number"].number(), Some(breach.fault.number.code()));
+        assert_eq!((told["page"].number(), told["element"].number()), (breach.fault.page, breach.fault.element));
+        assert_eq!(told["sentence"].text(), breach.sentence);
     }
 }
 
@@ -79,7 +83,10 @@ fn judge_shows_the_bytes_of_a_breach() {
         .contains("  key 0, at byte 10400:\n    000028a0  73                                               s\n"));
     assert!(shown(8, Some(1)).contains("  free id 1, at byte 2088:\n    00000828  0a 00 00 00 00 00 00 00 "));
     assert!(shown(8, None).contains("  its header, at byte 8192:\n"));
-    assert!(!shown(2, None).contains("at byte"));
+    assert!(!shown(2, None).contains("its header"));
+    let named = breaches::all().into_iter().find(|breach| breach.fault.page == Some(99)).unwrap();
+    let named = run_with("judge", &Temporary::file("named", &named.bytes), &[], named.sizes);
+    assert!(named.text().contains("  element 0 of page 7, at byte 7200:\n    00001c20  63 00 00 00 00 00 00 00 "));
 }
 
 #[test]
@@ -99,10 +106,13 @@ fn get_writes_the_value_and_nothing_else() {
 #[test]
 fn get_says_what_is_absent() {
     let lines: [(&[&str], &str); 4] = [
-        (&["nobody"], "there is no key \"nobody\""),
-        (&["x", "--bucket", "nowhere"], "there is no bucket \"nowhere\""),
-        (&["x", "--bucket", "world", "--bucket", "motto"], "\"motto\" is a value, not a bucket"),
-        (&["--hex", "00ff"], "there is no key 0x00ff"),
+        (&["nobody"], "there is no key \"nobody\" in the main tree"),
+        (&["x", "--bucket", "nowhere"], "there is no bucket \"nowhere\" in the main tree"),
+        (
+            &["x", "--bucket", "world", "--bucket", "motto"],
+            "\"motto\" in the bucket \"world\" is a value, not a bucket",
+        ),
+        (&["--hex", "00ff"], "there is no key 0x00ff in the main tree"),
     ];
     for (words, why) in lines {
         let words = [&["get", EXAMPLE], words].concat();
@@ -138,7 +148,7 @@ fn any_key_can_be_asked_for() {
 }
 
 /// An image whose root leaf has these keys, each with its index as value.
-fn leaf_of(keys: &[&[u8]]) -> Vec<u8> {
+pub fn leaf_of(keys: &[&[u8]]) -> Vec<u8> {
     let values: Vec<String> = (0..keys.len()).map(|i| i.to_string()).collect();
     let entries = keys.iter().zip(&values).map(|(key, value)| Entry { tag: 0, key, value: value.as_bytes() });
     let block = pack(&Node { id: 3, leaf: true, entries: entries.collect() }, 1_024);
@@ -157,7 +167,7 @@ fn get_reads_only_what_is_on_the_way() {
     assert_eq!(run_on("get", &file, &["long"]).text(), "long".repeat(300));
     let refused = run_on("get", &file, &["t"]);
     assert_eq!((refused.status, refused.text()), (2, ""));
-    assert!(refused.err.contains(": refused: page 10: the header is not that of the page wanted"));
+    assert!(refused.err.contains(": main tree refused: page 10: the header is not that of the page wanted"));
     let bucket = run_on("get", &file, &["s", "--bucket", "quay"]);
     assert_eq!(bucket.status, 2);
 }
@@ -238,28 +248,32 @@ fn stat_tells_the_numbers() {
     let lines = [
         EXAMPLE,
         "  file      163840 bytes",
+        "  meta 0    transaction 9, root page 144, freelist page 145, 146 pages of 1024 bytes, next number 4",
+        "  meta 1    transaction 10, root page 65, freelist page 66, 146 pages of 1024 bytes, next number 4",
         "  tree      bucket \"accounts\", root page 15, freelist page 66",
         "  image     146 pages of 1024 bytes",
         "  by        meta page 1, transaction 10, next number 4",
+        "  bucket    next number 60",
         "  free      43 pages",
-        "  verdict   sound: 60 entries in 12 blocks, the freelist's included",
+        "  verdict   bucket \"accounts\" sound, it has no buckets: 60 entries in 12 blocks, the freelist's included",
     ];
     assert_eq!((stat.status, stat.text().lines().collect::<Vec<_>>().as_slice()), (0, lines.as_slice()));
 }
 
 #[test]
 fn json_tells_the_numbers() {
-    let stat = run(&["stat", EXAMPLE, "--json"]);
-    let file = format!("{{\"file\":\"{EXAMPLE}\",\"buckets_hex\":[],\"file_bytes\":163840,");
-    let meta = "\"meta_page\":1,\"tx_id\":10,\"next_int\":4,";
-    let tree = "\"page_size\":1024,\"page_count\":146,\"root\":65,\"freelist\":66,";
-    let verdict = "\"verdict\":\"sound\",\"entries\":4,\"blocks\":2,\"free_pages\":43,\"seconds\":0.";
-    assert!(stat.text().starts_with(&format!("{file}{meta}{tree}{verdict}")), "{}", stat.text());
-    assert!(stat.text().ends_with("}\n"));
-    let get = run(&["get", EXAMPLE, "--json", "--bucket", "world", "motto"]);
-    let asked = format!("{{\"file\":\"{EXAMPLE}\",\"buckets_hex\":[\"776f726c64\"],\"key_hex\":\"6d6f74746f\",");
-    let found = "\"kind\":\"data\",\"place\":104292,\"length\":14,\"value_hex\":\"486f6c64207468652077616c6c2e\"}\n";
-    assert_eq!(get.text(), format!("{asked}\"verdict\":\"found\",{found}"));
+    let stat = json::parse(run(&["stat", EXAMPLE, "--json"]).text());
+    let names = ["file_bytes", "meta_page", "tx_id", "next_int", "page_size", "page_count", "root", "freelist"];
+    let numbers = [163_840, 1, 10, 4, 1_024, 146, 65, 66];
+    assert_eq!(names.map(|name| stat[name].number()), numbers.map(Some));
+    let counts = ["entries", "blocks", "free_pages"].map(|name| stat[name].number());
+    assert_eq!((stat["file"].text(), stat["verdict"].text(), counts), (EXAMPLE, "sound", [Some(4), Some(2), Some(43)]));
+    assert!(matches!(&stat["seconds"], json::Value::Number(seconds) if seconds.starts_with("0.")));
+    let get = json::parse(run(&["get", EXAMPLE, "--json", "--bucket", "world", "motto"]).text());
+    assert_eq!(get["buckets_hex"].list()[0].text(), "776f726c64");
+    let texts = ["key", "key_hex", "verdict", "kind", "value_hex"].map(|name| get[name].text());
+    assert_eq!(texts, ["motto", "6d6f74746f", "found", "data", "486f6c64207468652077616c6c2e"]);
+    assert_eq!((get["place"].number(), get["length"].number()), (Some(104_292), Some(14)));
 }
 
 #[test]

@@ -1,7 +1,7 @@
 //! The words of a command line.
 
 use std::ffi::OsString;
-use std::os::unix::ffi::OsStringExt;
+use std::os::unix::ffi::{OsStrExt, OsStringExt};
 use std::path::PathBuf;
 
 use crate::hex;
@@ -15,16 +15,28 @@ pub enum Action {
 }
 
 /// A command line that asks for work.
+#[derive(Debug)]
 pub struct Options {
     pub action: Action,
-    pub file: PathBuf,
+    /// One file, or more where they are to be judged.
+    pub files: Vec<PathBuf>,
     pub key: Vec<u8>,
     pub buckets: Vec<Vec<u8>>,
+    pub numbers: Numbers,
+    /// The meta page asked for.
+    pub meta: Option<u64>,
+    pub json: bool,
+    pub quiet: bool,
+    pub jobs: usize,
+}
+
+/// The numbers that stand in for a meta page's.
+#[derive(Clone, Copy, Debug, Default, PartialEq, Eq)]
+pub struct Numbers {
     pub page_size: Option<u64>,
     pub page_count: Option<u64>,
     pub root: Option<u64>,
     pub freelist: Option<u64>,
-    pub json: bool,
 }
 
 /// What a command line asks for.
@@ -39,11 +51,11 @@ pub enum Wanted {
 struct Words {
     others: Vec<OsString>,
     buckets: Vec<Vec<u8>>,
-    page_size: Option<u64>,
-    page_count: Option<u64>,
-    root: Option<u64>,
-    freelist: Option<u64>,
+    numbers: Numbers,
+    meta: Option<u64>,
+    jobs: Option<u64>,
     json: bool,
+    quiet: bool,
     hex: bool,
     help: bool,
     version: bool,
@@ -58,7 +70,18 @@ pub fn parse(words: impl Iterator<Item = OsString>) -> Result<Wanted, String> {
             sorted.others.extend(rest);
             break;
         }
-        sort(&mut sorted, word, &mut rest)?;
+        if !word.as_bytes().starts_with(b"-") || word == "-" {
+            sorted.others.push(word);
+            continue;
+        }
+        let (name, value) = parts(word.as_bytes());
+        let known = match value {
+            None => flag(&mut sorted, name) || valued(&mut sorted, name, || rest.next().map(OsString::into_vec))?,
+            Some(value) => valued(&mut sorted, name, || Some(value.to_vec()))?,
+        };
+        if !known {
+            return Err(unknown(name, value.is_some()));
+        }
     }
     match (sorted.help, sorted.version) {
         (true, _) => Ok(Wanted::Help),
@@ -67,27 +90,59 @@ pub fn parse(words: impl Iterator<Item = OsString>) -> Result<Wanted, String> {
     }
 }
 
-/// Puts one word, and the one after it where it takes one, where it belongs.
-fn sort(sorted: &mut Words, word: OsString, rest: &mut impl Iterator<Item = OsString>) -> Result<(), String> {
-    let Some(name) = word.to_str().filter(|name| name.starts_with('-') && *name != "-") else {
-        sorted.others.push(word);
-        return Ok(());
-    };
-    let mut next = || rest.next().map(OsString::into_vec).ok_or(format!("{name} wants a word after it"));
-    match name {
-        "--bucket" => sorted.buckets.push(next()?),
-        "--bucket-hex" => sorted.buckets.push(digits(&next()?)?),
-        "--page-size" => once(&mut sorted.page_size, name, &next()?)?,
-        "--page-count" => once(&mut sorted.page_count, name, &next()?)?,
-        "--root" => once(&mut sorted.root, name, &next()?)?,
-        "--freelist" => once(&mut sorted.freelist, name, &next()?)?,
-        "--json" => sorted.json = true,
-        "--hex" => sorted.hex = true,
-        "-h" | "--help" => sorted.help = true,
-        "-V" | "--version" => sorted.version = true,
-        _ => return Err(format!("there is no option {name}")),
+/// The name of an option, and what stands after its = sign.
+fn parts(word: &[u8]) -> (&[u8], Option<&[u8]>) {
+    match word.iter().position(|byte| *byte == b'=') {
+        Some(at) if word.starts_with(b"--") => (&word[..at], Some(&word[at + 1..])),
+        _ => (word, None),
     }
-    Ok(())
+}
+
+/// Sets an option that takes no word; whether there is one of this name.
+fn flag(sorted: &mut Words, name: &[u8]) -> bool {
+    let flag = match name {
+        b"--json" => &mut sorted.json,
+        b"--quiet" | b"-q" => &mut sorted.quiet,
+        b"--hex" => &mut sorted.hex,
+        b"--help" | b"-h" => &mut sorted.help,
+        b"--version" | b"-V" => &mut sorted.version,
+        _ => return false,
+    };
+    *flag = true;
+    true
+}
+
+/// Sets an option that takes a word; whether there is one of this name.
+fn valued(sorted: &mut Words, name: &[u8], word: impl FnOnce() -> Option<Vec<u8>>) -> Result<bool, String> {
+    let text = String::from_utf8_lossy(name);
+    let next = || word().ok_or(format!("{text} wants a word after it"));
+    let numbers = &mut sorted.numbers;
+    let place = match name {
+        b"--bucket" => {
+            sorted.buckets.push(next()?);
+            return Ok(true);
+        }
+        b"--bucket-hex" => {
+            sorted.buckets.push(digits(&next()?)?);
+            return Ok(true);
+        }
+        b"--page-size" => &mut numbers.page_size,
+        b"--page-count" => &mut numbers.page_count,
+        b"--root" => &mut numbers.root,
+        b"--freelist" => &mut numbers.freelist,
+        b"--meta" => &mut sorted.meta,
+        b"--jobs" | b"-j" => &mut sorted.jobs,
+        _ => return Ok(false),
+    };
+    once(place, &text, &next()?).map(|()| true)
+}
+
+/// What is wrong with an option that none takes.
+fn unknown(name: &[u8], has_value: bool) -> String {
+    if has_value && flag(&mut Words::default(), name) {
+        return format!("{} takes no word", String::from_utf8_lossy(name));
+    }
+    format!("there is no option {}", hex::shown(name))
 }
 
 /// Sets a number that may be given once.
@@ -107,24 +162,41 @@ fn digits(word: &[u8]) -> Result<Vec<u8>, String> {
 
 /// The work that sorted words ask for.
 fn options(words: Words) -> Result<Options, String> {
-    let mut others = words.others.into_iter();
+    let mut others = words.others.iter();
     let action = match others.next() {
         None => return Err("judge, get or stat is wanted".to_string()),
         Some(word) if word == "judge" => Action::Judge,
         Some(word) if word == "get" => Action::Get,
         Some(word) if word == "stat" => Action::Stat,
-        Some(word) => return Err(format!("{} is none of judge, get, stat", hex::shown(&word.into_vec()))),
+        Some(word) => return Err(format!("{} is none of judge, get, stat", hex::shown(word.as_bytes()))),
     };
-    let file = others.next().map(PathBuf::from).ok_or("a FILE is wanted")?;
+    let mut files = vec![others.next().map(PathBuf::from).ok_or("a FILE is wanted")?];
     let key = match (action, words.hex) {
-        (Action::Get, false) => others.next().ok_or("a KEY is wanted")?.into_vec(),
-        (Action::Get, true) => digits(&others.next().ok_or("a KEY is wanted")?.into_vec())?,
-        (_, false) => Vec::new(),
-        (_, true) => return Err("--hex is about the KEY of get".to_string()),
+        (Action::Get, false) => others.next().ok_or("a KEY is wanted")?.as_bytes().to_vec(),
+        (Action::Get, true) => digits(others.next().ok_or("a KEY is wanted")?.as_bytes())?,
+        _ => Vec::new(),
     };
-    if let Some(word) = others.next() {
-        return Err(format!("{} is one word too many", hex::shown(&word.into_vec())));
+    if action == Action::Judge {
+        files.extend(others.by_ref().map(PathBuf::from));
     }
-    let Words { buckets, page_size, page_count, root, freelist, json, .. } = words;
-    Ok(Options { action, file, key, buckets, page_size, page_count, root, freelist, json })
+    if let Some(word) = others.next() {
+        return Err(format!("{} is one word too many", hex::shown(word.as_bytes())));
+    }
+    check(&words, action)?;
+    let jobs = words.jobs.unwrap_or(1) as usize;
+    let Words { buckets, numbers, meta, json, quiet, .. } = words;
+    Ok(Options { action, files, key, buckets, numbers, meta, json, quiet, jobs })
+}
+
+/// Refuses an option that says nothing about the action, or a number that it cannot have.
+fn check(words: &Words, action: Action) -> Result<(), String> {
+    let judging = action == Action::Judge;
+    match words {
+        Words { hex: true, .. } if action != Action::Get => Err("--hex is about the KEY of get".to_string()),
+        Words { quiet: true, .. } if !judging => Err("--quiet is about judge".to_string()),
+        Words { jobs: Some(_), .. } if !judging => Err("--jobs is about judge".to_string()),
+        Words { jobs: Some(0), .. } => Err("--jobs wants 1 or more, not 0".to_string()),
+        Words { meta: Some(page @ 2..), .. } => Err(format!("--meta wants 0 or 1, not {page}")),
+        _ => Ok(()),
+    }
 }

@@ -2,6 +2,8 @@
 
 use std::fmt::Write;
 
+use crate::text;
+
 const ROW: usize = 16;
 const MOST_ROWS: usize = 8;
 
@@ -27,19 +29,19 @@ pub fn parse(word: &[u8]) -> Option<Vec<u8>> {
 /// A key or a name for a person: as text where it is plain text, else as digits.
 pub fn shown(bytes: &[u8]) -> String {
     match std::str::from_utf8(bytes) {
-        Ok(text) if !text.chars().any(char::is_control) => format!("\"{text}\""),
+        Ok(text) if !text.chars().any(text::is_hidden) => format!("\"{text}\""),
         _ => format!("0x{}", digits(bytes)),
     }
 }
 
 /// Rows of digits and characters, each with its place; a long stretch is cut.
-pub fn rows(at: usize, bytes: &[u8]) -> String {
+pub fn rows(at: u64, bytes: &[u8]) -> String {
     let mut text = String::new();
     for (i, row) in bytes.chunks(ROW).take(MOST_ROWS).enumerate() {
         let pairs: Vec<String> = row.iter().map(|byte| format!("{byte:02x}")).collect();
         let plain = |byte: &u8| if matches!(byte, b' '..=b'~') { char::from(*byte) } else { '.' };
         let characters: String = row.iter().map(plain).collect();
-        let _ = writeln!(text, "    {:08x}  {:47}  {characters}", at + i * ROW, pairs.join(" "));
+        let _ = writeln!(text, "    {:08x}  {:47}  {characters}", at + (i * ROW) as u64, pairs.join(" "));
     }
     let left = bytes.len().saturating_sub(ROW * MOST_ROWS);
     if left > 0 {

@@ -1,25 +1,33 @@
-//! The command `tyvarmos`: judges a file, gets a value, tells what a file is.
+//! The command `tyvarmos`: judges files, gets a value, tells what a file is.
 
 mod args;
+mod buckets;
+mod context;
+mod descent;
 mod file;
 mod get;
 mod help;
 mod hex;
 mod json;
+mod layout;
+mod many;
+mod meant;
+mod media;
+mod metas;
 mod object;
 mod progress;
+mod refusal;
 mod stop;
-mod tree;
+mod text;
+mod trace;
 mod verdict;
-mod view;
+mod walk;
 mod words;
 
 use std::process::ExitCode;
 
-use args::{Action, Options, Wanted};
-use file::Source;
+use args::{Action, Wanted};
 use stop::{put, Stop};
-use verdict::Verdict;
 
 fn main() -> ExitCode {
     ExitCode::from(run().unwrap_or_else(|stop| stop.tell()))
@@ -31,19 +39,6 @@ fn run() -> Result<u8, Stop> {
         Wanted::Help => put(help::LONG.as_bytes()).map(|()| 0),
         Wanted::Version => put(concat!("tyvarmos ", env!("CARGO_PKG_VERSION"), "\n").as_bytes()).map(|()| 0),
         Wanted::Work(options) if options.action == Action::Get => get::run(&options),
-        Wanted::Work(options) => tell_verdict(&options),
+        Wanted::Work(options) => many::run(&options),
     }
-}
-
-/// Prints the verdict on a tree, in words or as JSON, and answers its status.
-fn tell_verdict(options: &Options) -> Result<u8, Stop> {
-    let source = Source::open(&options.file)?;
-    let verdict = Verdict::on(options, &source)?;
-    let text = match options.action {
-        _ if options.json => object::of_verdict(&verdict, options, &source),
-        Action::Stat => words::of_stat(&verdict, options, &source),
-        Action::Judge | Action::Get => words::of_judge(&verdict, options, &source),
-    };
-    put(text.as_bytes())?;
-    Ok(verdict.status())
 }

@@ -2,88 +2,200 @@
 
 use std::time::{Duration, Instant};
 
-use tyvarmos::{Fault, Image, Sound};
+use tyvarmos::Sound;
 
 use crate::args::Options;
-use crate::file::Source;
-use crate::progress::Progress;
-use crate::stop::{Stop, ABSENT, REFUSED};
-use crate::tree::{self, Missing, Tree};
-use crate::view;
-
-const COUNT_AT: usize = 16;
+use crate::buckets::Buckets;
+use crate::descent::{self, Lost};
+use crate::file::{Read, Source};
+use crate::layout::Pages;
+use crate::meant::Meant;
+use crate::metas::Metas;
+use crate::progress::Share;
+use crate::refusal::Refusal;
+use crate::stop::{Stop, ABSENT};
 
 /// What was judged and what came of it.
 pub struct Verdict {
-    /// The tree named by the file or the options, where a meta page or the options told it.
-    pub tree: Option<Tree>,
-    /// The root of the tree judged: the main tree's or a bucket's.
-    pub root: u64,
+    /// The tree that was judged, or that was refused on the way to it, where a meta page or the options told it.
+    pub meant: Option<Meant>,
+    pub metas: Metas,
+    pub warnings: Vec<String>,
+    /// The image's pages; of its bytes nothing is kept.
+    pub read: Read,
     pub outcome: Outcome,
 }
 
 pub enum Outcome {
-    Sound { entries: u64, blocks: u64, free_pages: u64, time: Duration },
-    Refused { fault: Fault, view: String },
+    Sound { entries: u64, blocks: u64, free_pages: u64, buckets: Buckets, time: Duration },
+    Refused(Box<Refusal>),
     Absent(String),
 }
 
 impl Verdict {
     /// The verdict on the tree that the options name.
-    pub fn on(options: &Options, source: &Source) -> Result<Verdict, Stop> {
-        let tree = match Tree::of(options, &source.head) {
-            Ok(tree) => tree,
+    pub fn on(options: &Options, source: &Source, share: &Share) -> Result<Verdict, Stop> {
+        let metas = Metas::of(&source.head, &source.holes, options.numbers.page_size);
+        let mut meant = match Meant::main(options, &metas) {
+            Ok(meant) => meant,
             Err(fault) => {
-                let outcome = Outcome::Refused { fault, view: view::of_meta(&source.head) };
-                return Ok(Verdict { tree: None, root: 0, outcome });
+                let outcome = Outcome::Refused(Box::new(Refusal::without_tree(fault, options, &metas)));
+                return Ok(Verdict { meant: None, metas, warnings: Vec::new(), read: Read::default(), outcome });
             }
         };
-        let reading = Progress::start(format!("reading {}", options.file.display()));
-        let bytes = source.image_bytes(&tree)?;
-        drop(reading);
-        let (root, outcome) = judged(tree.image(&bytes), options);
-        Ok(Verdict { tree: Some(tree), root, outcome })
+        let warnings = meant.meta.and_then(|meta| metas.warning(&meta)).into_iter().collect();
+        let read = source.image(&meant.tree, &|bytes| share.read(bytes))?;
+        share.read_all();
+        let outcome = judged(&mut meant, options, source, &read);
+        let read = Read { bytes: Vec::new(), ..read };
+        Ok(Verdict { meant: Some(meant), metas, warnings, read, outcome })
     }
 
     /// The exit status.
     pub fn status(&self) -> u8 {
-        match self.outcome {
+        match &self.outcome {
             Outcome::Sound { .. } => 0,
-            Outcome::Refused { .. } => REFUSED,
+            Outcome::Refused(refusal) => refusal.status(),
             Outcome::Absent(_) => ABSENT,
         }
     }
+
+    /// Whether there is nothing to be told but that the tree is sound.
+    pub fn is_plain(&self) -> bool {
+        self.status() == 0 && self.warnings.is_empty() && self.read.unread.is_empty()
+    }
 }
 
-/// The root of the tree judged, and the outcome.
-fn judged(main: Image, options: &Options) -> (u64, Outcome) {
-    let mut image = main;
+/// The outcome for the tree at the end of the buckets; what is meant is then this tree, or the one refused before it.
+fn judged(meant: &mut Meant, options: &Options, source: &Source, read: &Read) -> Outcome {
     for name in &options.buckets {
-        match tree::bucket(image, name) {
-            Ok(bucket) => image = bucket,
-            Err(Missing::Refused(fault)) => return (image.tree().root_page, refused(&image, fault)),
-            Err(Missing::Absent(why)) => return (image.tree().root_page, Outcome::Absent(why)),
+        match descent::to_bucket(meant, source, read, name) {
+            Ok(bucket) => *meant = bucket,
+            Err(Lost::Absent(why)) => return Outcome::Absent(why),
+            Err(Lost::Refused(refusal)) => return Outcome::Refused(refusal),
         }
     }
-    let _judging = Progress::start(format!("judging {}", options.file.display()));
     let start = Instant::now();
-    let outcome = match image.judge() {
-        Ok(sound) => passed(&sound, start.elapsed()),
-        Err(fault) => refused(&image, fault),
-    };
-    (image.tree().root_page, outcome)
+    let judged = meant.image(&read.bytes).judge();
+    let time = start.elapsed();
+    match judged {
+        Err(fault) => Outcome::Refused(Box::new(Refusal::judged(meant, source, read, fault))),
+        Ok(sound) => match Refusal::of_passed(&sound.image(), read, None) {
+            Some(refusal) => Outcome::Refused(Box::new(refusal)),
+            None => passed(&sound, time),
+        },
+    }
 }
 
 /// The outcome of a sound image.
 fn passed(sound: &Sound, time: Duration) -> Outcome {
     let image = sound.image();
-    let freelist = (image.tree().freelist_page * image.tree().page_size) as usize;
-    let count = &image.bytes()[freelist + COUNT_AT..][..8];
-    let free_pages = count.try_into().map_or(0, u64::from_le_bytes);
-    Outcome::Sound { entries: sound.entries(), blocks: sound.pages(), free_pages, time }
+    let freelist = Pages::of(&image).block(image.tree().freelist_page);
+    let free_pages = freelist.map_or(0, |block| block.header.count);
+    Outcome::Sound { entries: sound.entries(), blocks: sound.pages(), free_pages, buckets: Buckets::of(&image), time }
 }
 
-/// The outcome of a breach, with the bytes that are one.
-fn refused(image: &Image, fault: Fault) -> Outcome {
-    Outcome::Refused { fault, view: view::of(image, &fault) }
+#[cfg(test)]
+mod tests {
+    use std::ffi::OsString;
+    use std::path::Path;
+
+    use super::*;
+    use crate::args::{self, Wanted};
+    use crate::media::tests::Failing;
+    use crate::progress::Progress;
+    use crate::refusal::Kind;
+    use crate::stop::UNREADABLE;
+    use crate::words;
+
+    const EXAMPLE: &[u8] = include_bytes!("../../../../../examples/shard.db");
+    const PAGE: u64 = 1_024;
+
+    /// The verdict on the example with these bytes unreadable, and what is said about it.
+    fn verdict(bad: &[(u64, u64)], words: &[&str]) -> (Verdict, String) {
+        let words = ["judge", "dying"].iter().chain(words).map(OsString::from);
+        let Ok(Wanted::Work(options)) = args::parse(words) else { panic!("no work") };
+        let media = Failing { bytes: EXAMPLE.to_vec(), bad: bad.to_vec() };
+        let source = Source::new(Path::new("dying"), Box::new(media), EXAMPLE.len() as u64).unwrap();
+        let progress = Progress::start(&[]);
+        let verdict = Verdict::on(&options, &source, &progress.share(source.length)).unwrap();
+        let said = words::of_judge(&verdict, &options, &source);
+        (verdict, said)
+    }
+
+    /// A bad sector in the middle of a page.
+    fn sector(page: u64) -> (u64, u64) {
+        (page * PAGE + 512, page * PAGE + 513)
+    }
+
+    #[test]
+    fn pages_that_the_tree_does_not_need_are_told_and_no_more() {
+        let (verdict, said) = verdict(&[sector(10), sector(140), sector(141)], &[]);
+        assert_eq!((verdict.status(), verdict.is_plain()), (0, false));
+        assert!(
+            said.contains("3 pages could not be read: 10, 140 to 141, and the tree needs none of them\n"),
+            "{said}"
+        );
+    }
+
+    #[test]
+    fn a_page_that_is_needed_is_not_called_damaged() {
+        for page in [65, 66] {
+            let (verdict, said) = verdict(&[sector(10), sector(page), sector(140)], &[]);
+            assert_eq!(verdict.status(), UNREADABLE);
+            assert!(said.starts_with("dying: main tree not judged\n"), "{said}");
+            let why = format!("from byte {} on: Input/output error (os error 5)", page * PAGE + 512);
+            assert!(said.contains(&format!("  page {page} is needed and could not be read, {why}\n")), "{said}");
+            assert!(!said.contains("refused") && !said.contains("(3)"), "{said}");
+        }
+    }
+
+    #[test]
+    fn an_overflow_page_is_needed_though_its_zeros_would_pass() {
+        let world = verdict(&[], &["--bucket=world"]).0.meant.unwrap().tree.root_page;
+        for page in world..world + 5 {
+            let (verdict, said) = verdict(&[sector(page)], &["--bucket", "world"]);
+            let Outcome::Refused(refusal) = &verdict.outcome else { panic!("{said}") };
+            assert!(
+                matches!(&refusal.kind, Kind::Unread(pages) if pages.len() == 1 && pages.contains(&page)),
+                "{said}"
+            );
+        }
+        assert_eq!(verdict(&[sector(world + 5)], &["--bucket=world"]).0.status(), 0);
+    }
+
+    #[test]
+    fn a_bucket_behind_a_bad_page_is_not_called_absent() {
+        let (verdict, said) = verdict(&[sector(65)], &["--bucket", "nowhere"]);
+        assert_eq!(verdict.status(), UNREADABLE);
+        assert!(said.starts_with("dying: main tree not judged on the way to bucket \"nowhere\"\n"), "{said}");
+    }
+
+    #[test]
+    fn a_damaged_page_is_still_called_damaged() {
+        let (verdict, said) = verdict(&[sector(10)], &["--root", "66"]);
+        assert_eq!(verdict.status(), crate::stop::REFUSED);
+        assert!(said.contains("page 66: the header is not that of the page wanted"), "{said}");
+    }
+
+    #[test]
+    fn an_unreadable_meta_page_is_told() {
+        let (one, said) = verdict(&[(PAGE, PAGE + 1)], &[]);
+        assert_eq!(one.status(), 0);
+        let why = "it could not be read: from byte 1024 on: Input/output error (os error 5)";
+        assert!(said.contains(&format!("  warning   meta page 1 cannot be used: {why}; transaction 9,")), "{said}");
+        let (both, said) = verdict(&[(0, 1), (PAGE, PAGE + 1)], &[]);
+        assert_eq!(both.status(), UNREADABLE);
+        assert!(said.contains("no meta page can be used: it could not be read: from byte 0 on"), "{said}");
+        let words = ["--page-size=1024", "--page-count=146", "--root=65", "--freelist=66"];
+        assert_eq!(verdict(&[(0, 1), (PAGE, PAGE + 1)], &words).0.status(), 0);
+    }
+
+    #[test]
+    fn a_file_of_which_nothing_can_be_read_is_a_stop() {
+        let media = Failing { bytes: EXAMPLE.to_vec(), bad: vec![(0, u64::MAX)] };
+        let stop = Source::new(Path::new("dead"), Box::new(media), EXAMPLE.len() as u64).err().unwrap();
+        let Stop::Unreadable { why, .. } = stop else { panic!("{stop:?}") };
+        assert_eq!(why, "bytes 0 to 131071 cannot be read: Input/output error (os error 5)");
+    }
 }

@@ -1,92 +1,212 @@
 //! A verdict in words.
 
+mod context;
+
 use std::fmt::Write;
+use std::path::Path;
 use std::time::Duration;
 
-use tyvarmos::Fault;
+use tyvarmos::{Meta, Tree};
 
-use crate::args::Options;
+use crate::args::{Numbers, Options};
+use crate::buckets::Buckets;
 use crate::file::Source;
 use crate::hex;
-use crate::tree::Tree;
+use crate::layout;
+use crate::meant::Meant;
+use crate::media;
+use crate::metas::Metas;
+use crate::refusal::{Kind, Refusal};
+use crate::text;
 use crate::verdict::{Outcome, Verdict};
 
-/// What `judge` prints.
+/// What `judge` prints about one file.
 pub fn of_judge(verdict: &Verdict, options: &Options, source: &Source) -> String {
-    let file = options.file.display();
-    let about = about(verdict, options);
-    match &verdict.outcome {
-        Outcome::Sound { entries, blocks, time, .. } => {
-            let left = "not judged here: name one with --bucket";
-            let (counts, time) =
-                (format!("{entries} entries in {blocks} blocks, the freelist's included"), took(*time));
-            format!("{file}: sound\n{about}  counted   {counts}\n  time      {time}\n  buckets   {left}\n")
-        }
-        Outcome::Refused { fault, view } => {
-            let (why, length) = (refusal(verdict, fault), source.length);
-            format!("{file}: refused\n  {why}\n{about}  file      {length} bytes\n{view}")
-        }
-        Outcome::Absent(why) => format!("{file}: {why}\n"),
+    let mut text = format!("{}: {}\n", text::path(&source.path), headline(verdict, options));
+    if let Outcome::Refused(refusal) = &verdict.outcome {
+        let _ = writeln!(text, "  {}", refusal.sentence);
     }
+    text += &warnings(verdict);
+    if let Outcome::Absent(_) = verdict.outcome {
+        return text;
+    }
+    text += &verdict.meant.as_ref().map_or(String::new(), |meant| about(meant, options));
+    match &verdict.outcome {
+        Outcome::Sound { entries, blocks, buckets, time, .. } => {
+            let _ = writeln!(text, "  counted   {entries} entries in {blocks} blocks, the freelist's included");
+            let _ = writeln!(text, "  time      {}", took(*time));
+            let _ = writeln!(text, "  buckets   {}", bucket_names(buckets));
+        }
+        Outcome::Refused(refusal) => {
+            let _ = writeln!(text, "  file      {} bytes", source.length);
+            text += &below(refusal, verdict.meant.as_ref());
+            if verdict.meant.is_none() {
+                text += &metas(&verdict.metas);
+                text += &layout::first_meta(&source.head).map_or(String::new(), |part| part.rows());
+            }
+        }
+        Outcome::Absent(_) => {}
+    }
+    text
+}
+
+/// What `judge` prints about one of many files.
+pub fn of_many(verdict: &Verdict, options: &Options, path: &Path) -> String {
+    let mut line = format!("{}: {}", text::path(path), headline(verdict, options));
+    if let Outcome::Refused(refusal) = &verdict.outcome {
+        let more = refusal.to_go_on.as_ref().map_or(String::new(), |more| format!("; {more}"));
+        let _ = write!(line, ": {}{more}", refusal.sentence);
+    }
+    for warning in notes(verdict) {
+        let _ = write!(line, "; {warning}");
+    }
+    line + "\n"
 }
 
 /// What `stat` prints.
 pub fn of_stat(verdict: &Verdict, options: &Options, source: &Source) -> String {
-    let mut text = format!("{}\n  file      {} bytes\n", options.file.display(), source.length);
-    text += &about(verdict, options);
+    let mut text = format!("{}\n  file      {} bytes\n", text::path(&source.path), source.length);
+    text += &metas(&verdict.metas);
+    text += &warnings(verdict);
+    text += &verdict.meant.as_ref().map_or(String::new(), |meant| about(meant, options));
+    if let Some((_, bucket)) = verdict.meant.as_ref().and_then(|meant| meant.bucket) {
+        let _ = writeln!(text, "  bucket    next number {}", bucket.next_int);
+    }
+    let headline = headline(verdict, options);
     match &verdict.outcome {
         Outcome::Sound { entries, blocks, free_pages, .. } => {
             let _ = writeln!(text, "  free      {free_pages} pages");
-            let _ = writeln!(text, "  verdict   sound: {entries} entries in {blocks} blocks, the freelist's included");
+            let counts = format!("{entries} entries in {blocks} blocks, the freelist's included");
+            let _ = writeln!(text, "  verdict   {headline}: {counts}");
         }
-        Outcome::Refused { fault, .. } => {
-            let _ = writeln!(text, "  verdict   refused: {}", refusal(verdict, fault));
+        Outcome::Refused(refusal) => {
+            let _ = writeln!(text, "  verdict   {headline}: {}", refusal.sentence);
+            text += &to_go_on(refusal);
         }
-        Outcome::Absent(why) => {
-            let _ = writeln!(text, "  verdict   absent: {why}");
+        Outcome::Absent(_) => {
+            let _ = writeln!(text, "  verdict   {headline}");
         }
     }
     text
 }
 
-/// The tree and the pages that were judged, a line each.
-fn about(verdict: &Verdict, options: &Options) -> String {
-    let Some(tree) = &verdict.tree else {
-        return "  to go on  give --page-size, --page-count, --root and --freelist\n".to_string();
+/// What `get` says of a refusal, below its sentence.
+pub fn below(refusal: &Refusal, meant: Option<&Meant>) -> String {
+    let page = refusal.fault.and_then(|fault| fault.page);
+    let context = match (&refusal.context, meant, page) {
+        (Some(context), Some(meant), Some(page)) => context::lines(context, meant, page),
+        _ => String::new(),
     };
-    let names: Vec<String> = options.buckets.iter().map(|name| hex::shown(name)).collect();
-    let which = if names.is_empty() { "the main tree".to_string() } else { format!("bucket {}", names.join(", ")) };
-    let by = by_what(tree, options);
-    let Tree { page_size, page_count, freelist, .. } = tree;
+    to_go_on(refusal) + &context
+}
+
+/// Which tree was refused, or why none was, as the beginning of a sentence.
+pub fn refused(refusal: &Refusal, meant: Option<&Meant>, options: &Options) -> String {
+    let Some(meant) = meant else {
+        return match refusal.kind {
+            Kind::Beyond => "beyond the limits of this version".to_string(),
+            _ => "refused, nothing judged".to_string(),
+        };
+    };
+    let towards = options.buckets.get(meant.names.len());
+    let way = towards.map_or(String::new(), |name| format!(" on the way to bucket {}", hex::shown(name)));
+    match refusal.kind {
+        Kind::Broken => format!("{} refused{way}", meant.name()),
+        Kind::Beyond => "beyond the limits of this version".to_string(),
+        Kind::Unread(_) => format!("{} not judged{way}", meant.name()),
+    }
+}
+
+/// What was judged and what came of it, in a line.
+fn headline(verdict: &Verdict, options: &Options) -> String {
+    let meant = verdict.meant.as_ref();
+    match &verdict.outcome {
+        Outcome::Sound { buckets, .. } => {
+            let within = if meant.is_some_and(|meant| meant.bucket.is_some()) { " in it" } else { "" };
+            let count = match buckets.count {
+                0 => "it has no buckets".to_string(),
+                1 => format!("1 bucket{within} not judged"),
+                count => format!("{count} buckets{within} not judged"),
+            };
+            format!("{} sound, {count}", meant.map_or(String::new(), Meant::name))
+        }
+        Outcome::Refused(refusal) => refused(refusal, meant, options),
+        Outcome::Absent(why) => why.clone(),
+    }
+}
+
+/// What is to be said besides the outcome.
+fn notes(verdict: &Verdict) -> Vec<String> {
+    let unread = &verdict.read.unread;
+    let mut notes = verdict.warnings.clone();
+    if !unread.is_empty() {
+        let pages = if unread.len() == 1 { "page" } else { "pages" };
+        let outcome = if verdict.status() == 0 { ", and the tree needs none of them" } else { "" };
+        notes.push(format!("{} {pages} could not be read: {}{outcome}", unread.len(), media::listed(unread)));
+    }
+    notes
+}
+
+fn warnings(verdict: &Verdict) -> String {
+    notes(verdict).iter().map(|note| format!("  warning   {note}\n")).collect()
+}
+
+fn to_go_on(refusal: &Refusal) -> String {
+    refusal.to_go_on.as_ref().map_or(String::new(), |more| format!("  to go on  {more}\n"))
+}
+
+/// The tree and the pages that were judged, a line each.
+fn about(meant: &Meant, options: &Options) -> String {
+    let the = if meant.names.is_empty() { "the " } else { "" };
+    let Tree { page_size, page_count, root_page, freelist_page } = meant.tree;
     format!(
-        "  tree      {which}, root page {}, freelist page {freelist}\n  \
+        "  tree      {the}{}, root page {root_page}, freelist page {freelist_page}\n  \
            image     {page_count} pages of {page_size} bytes\n  \
-           by        {by}\n",
-        verdict.root
+           by        {}\n",
+        meant.name(),
+        by_what(meant, options)
     )
 }
 
 /// Where the numbers of a tree come from.
-fn by_what(tree: &Tree, options: &Options) -> String {
-    let Some(meta) = &tree.meta else {
+fn by_what(meant: &Meant, options: &Options) -> String {
+    let Some(meta) = &meant.meta else {
         return "the command line; no meta page can be used".to_string();
     };
-    let given = [options.page_size, options.page_count, options.root, options.freelist];
-    let and = if given == [None; 4] { "" } else { ", and the command line" };
+    let and = if options.numbers == Numbers::default() { "" } else { ", and the command line" };
     format!("meta page {}, transaction {}, next number {}{and}", meta.meta_page, meta.tx_id, meta.next_int)
 }
 
-/// The sentence of a fault; without a tree it is about the meta pages.
-pub fn refusal(verdict: &Verdict, fault: &Fault) -> String {
-    match verdict.tree {
-        Some(_) => fault.to_string(),
-        None => no_meta(fault),
+/// Both meta pages, each with what is wrong with it.
+fn metas(metas: &Metas) -> String {
+    let mut text = String::new();
+    for page in 0..2 {
+        match metas.usable(page) {
+            Ok(Meta { tx_id, root_page, freelist_page, page_count, page_size, next_int, .. }) => {
+                let numbers = format!("{page_count} pages of {page_size} bytes, next number {next_int}");
+                let pages = format!("root page {root_page}, freelist page {freelist_page}");
+                let _ = writeln!(text, "  meta {page}    transaction {tx_id}, {pages}, {numbers}");
+            }
+            Err(why) => {
+                let _ = writeln!(text, "  meta {page}    cannot be used: {why}");
+                if let Some(fields) = &metas.pages[page].fields {
+                    let _ = writeln!(text, "            it says: {fields}");
+                }
+            }
+        }
     }
+    text
 }
 
-/// The sentence where no meta page can be used.
-pub fn no_meta(fault: &Fault) -> String {
-    format!("no meta page can be used: {fault}")
+/// The names of the buckets that were not judged.
+fn bucket_names(buckets: &Buckets) -> String {
+    if buckets.count == 0 {
+        return "none".to_string();
+    }
+    let names: Vec<String> = buckets.names.iter().map(|name| hex::shown(name)).collect();
+    let more = buckets.count - names.len() as u64;
+    let more = if more > 0 { format!(" and {more} more") } else { String::new() };
+    format!("{}{more}: not judged here, name one with --bucket", names.join(", "))
 }
 
 /// A time for a person.

@@ -1,0 +1,139 @@
+//! What a person needs to know of a fault besides its number: read again on the way to it, in Rust, and not proved.
+
+use tyvarmos::{Fault, Image, Number};
+
+use crate::layout::{Block, Element, Header, Pages, Part, FREELIST, LEAF};
+use crate::meant::Meant;
+use crate::trace::{Named, Trace};
+use crate::walk::Step;
+
+/// All that was found about a fault.
+pub struct Context {
+    /// What named the fault's page.
+    pub named: Option<Place>,
+    /// For 8, the page in question and what named it first.
+    pub first: Option<(u64, Place)>,
+    /// The header of the fault's page, and where in the file it stands.
+    pub header: Option<(u64, Header)>,
+    /// The numbers of the fault's element, and where in the file it stands.
+    pub element: Option<(u64, Numbers)>,
+    /// For 7, the range that the key is outside of.
+    pub range: Option<Range>,
+    /// The bytes in question, in rows.
+    pub rows: String,
+}
+
+/// What names a page, and where in the file the page number stands; the command line has no such place.
+pub struct Place {
+    pub named: Named,
+    pub byte: Option<u64>,
+}
+
+/// An element's numbers, or a free id.
+pub enum Numbers {
+    Leaf(Element),
+    Branch(Element),
+    FreeId(u64),
+}
+
+/// An end of a range: a separator, and the element that holds it.
+pub struct End {
+    pub key: Vec<u8>,
+    pub step: Step,
+}
+
+/// From the lower end up to, not including, the upper one.
+pub struct Range {
+    pub low: Option<End>,
+    pub high: Option<End>,
+    /// Whether the key is below the lower end; else it is not below the upper one.
+    pub below: bool,
+}
+
+impl Context {
+    /// The context of a fault in the tree that is meant, from the way to it.
+    pub fn of(image: &Image, meant: &Meant, fault: &Fault, trace: Trace) -> Context {
+        let pages = Pages::of(image);
+        let reached = fault.number != Number::PageNumber;
+        let block = fault.page.filter(|_| reached).and_then(|page| pages.block(page));
+        let place = |named: Named| Place { byte: byte_of(pages, meant, &named), named };
+        let range = match &trace.named {
+            Some(Named::Tree(steps)) if fault.number == Number::Range => {
+                range(pages, steps, block.as_ref(), fault.element)
+            }
+            _ => None,
+        };
+        Context {
+            header: block.as_ref().map(|block| (block.start, block.header)),
+            element: block.as_ref().and_then(|block| numbers(block, fault.element?)),
+            rows: block.map_or_else(|| naming_rows(pages, &trace.named), |block| rows(&block, fault)),
+            named: trace.named.map(place),
+            first: trace.first.map(|(page, named)| (page, place(named))),
+            range,
+        }
+    }
+}
+
+/// Where in the file the number of a page stands.
+fn byte_of(pages: Pages, meant: &Meant, named: &Named) -> Option<u64> {
+    match named {
+        Named::Freelist => meant.freelist_byte(),
+        Named::Tree(steps) => match steps.last() {
+            None => meant.root_byte(),
+            Some(step) => pages.block(step.page)?.element_byte(step.element),
+        },
+    }
+}
+
+/// The numbers of an element or a free id, and where it stands.
+fn numbers(block: &Block, i: u64) -> Option<(u64, Numbers)> {
+    let numbers = match block.header.kind {
+        FREELIST => Numbers::FreeId(block.number(i)?),
+        LEAF => Numbers::Leaf(block.element(i)?),
+        _ => Numbers::Branch(block.element(i)?),
+    };
+    Some((block.element_byte(i)?, numbers))
+}
+
+/// The range that the branches above give a page, and on which side of it a key of the page is.
+fn range(pages: Pages, steps: &[Step], block: Option<&Block>, element: Option<u64>) -> Option<Range> {
+    let end = |page, element| {
+        let key = pages.block(page)?.key(element)?.to_vec();
+        Some(End { key, step: Step { page, element } })
+    };
+    let low = steps.last().and_then(|step| end(step.page, step.element));
+    let ends = |step: &&Step| pages.block(step.page).is_some_and(|block| step.element + 1 < block.count());
+    let high = steps.iter().rev().find(ends).and_then(|step| end(step.page, step.element + 1));
+    let key = block?.key(element?)?;
+    let below = low.as_ref().is_some_and(|low| key < low.key.as_slice());
+    Some(Range { low, high, below })
+}
+
+/// The element that names a page which the image has not, in rows.
+fn naming_rows(pages: Pages, named: &Option<Named>) -> String {
+    let Some(Named::Tree(steps)) = named else {
+        return String::new();
+    };
+    let part = steps.last().and_then(|step| {
+        let part = pages.block(step.page)?.element_part(step.element)?;
+        Some(Part { what: format!("{} of page {}", part.what, step.page), ..part })
+    });
+    part.map_or(String::new(), |part| part.rows())
+}
+
+/// The header, element, id or keys that a fault is about, in rows.
+fn rows(block: &Block, fault: &Fault) -> String {
+    let pair = |part: fn(&Block<'_>, u64) -> Option<String>, i: u64| {
+        [i.checked_sub(1).and_then(|before| part(block, before)), part(block, i)]
+    };
+    let element = |block: &Block, i| block.element_part(i).map(|part| part.rows());
+    let key = |block: &Block, i| block.key_part(i).map(|part| part.rows());
+    let parts = match (fault.number, fault.element) {
+        (_, None) => [block.header_part().map(|part| part.rows()), None],
+        (Number::Order, Some(i)) if block.header.kind == FREELIST => pair(element, i),
+        (Number::Order, Some(i)) => pair(key, i),
+        (Number::Range, Some(i)) => [element(block, i), key(block, i)],
+        (_, Some(i)) => [element(block, i), None],
+    };
+    parts.into_iter().flatten().collect()
+}

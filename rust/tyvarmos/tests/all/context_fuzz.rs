@@ -1,0 +1,146 @@
+//! The context of faults in thousands of damaged images: there is no crash, and what it says holds of the bytes.
+
+use std::collections::BTreeMap;
+use std::ffi::OsStr;
+
+use reading::layout::{header, u64_at, BRANCH, LEAF};
+
+use crate::damage::damage;
+use crate::files::{run, Temporary};
+use crate::json::{self, Value};
+use crate::rng::Rng;
+use crate::small::{self, P};
+
+const ROUNDS: usize = 12;
+const FILES: usize = 400;
+
+/// The key of an element that is sound.
+fn key(bytes: &[u8], page: u64, element: u64) -> &[u8] {
+    let start = (page * P) as usize;
+    let leaf = header(&bytes[start..]).kind == LEAF;
+    let (size, pos_at, size_at) = if leaf { (32, 8, 16) } else { (24, 16, 8) };
+    let at = start + 32 + element as usize * size;
+    let from = at + u64_at(bytes, at + pos_at) as usize;
+    &bytes[from..from + u64_at(bytes, at + size_at) as usize]
+}
+
+/// The page that a place names, by the bytes: its path is followed from the root.
+fn named(bytes: &[u8], root: u64, place: &Value) -> u64 {
+    let mut page = root;
+    for step in place["path"].list() {
+        assert_eq!(step["page"].number(), Some(page));
+        let start = (page * P) as usize;
+        assert_eq!(header(&bytes[start..]).kind, BRANCH);
+        page = u64_at(bytes, start + 32 + 24 * step["element"].number().unwrap() as usize);
+    }
+    if let Some(byte) = place["byte"].number().filter(|_| place["as"].text() == "child") {
+        assert_eq!(u64_at(bytes, byte as usize), page);
+    }
+    page
+}
+
+/// Checks the range of a fault with 7: its ends are separators, and the key is outside.
+fn check_range(bytes: &[u8], told: &Value, page: u64, element: u64) {
+    let range = &told["context"]["range"];
+    let end = |end: &Value| {
+        let separator = key(bytes, end["page"].number().unwrap(), end["element"].number().unwrap());
+        let digits: String = separator.iter().map(|byte| format!("{byte:02x}")).collect();
+        assert_eq!(end["key_hex"].text(), digits);
+        separator.to_vec()
+    };
+    let key = key(bytes, page, element);
+    match range["crossed"].text() {
+        "low" => assert!(key < end(&range["low"]).as_slice()),
+        _ => assert!(key >= end(&range["high"]).as_slice()),
+    }
+}
+
+/// Checks what is told about one damaged image, and answers the number.
+fn check(bytes: &[u8], told: &Value) -> u64 {
+    if told["verdict"].text() == "sound" {
+        return 0;
+    }
+    let (number, page) = (told["number"].number().unwrap(), told["page"].number());
+    if !told.has("context") {
+        assert!(page.is_none(), "{told:?}");
+        return number;
+    }
+    let (page, root, freelist) = (page.unwrap(), told["root"].number().unwrap(), told["freelist"].number().unwrap());
+    let context = &told["context"];
+    match context["named_by"]["as"].text() {
+        "freelist" => assert_eq!(page, freelist),
+        _ => assert_eq!(named(bytes, root, &context["named_by"]), page, "{told:?}"),
+    }
+    if number == 8 {
+        let first = &context["first_named_by"];
+        let in_use = context["page_in_use"].number().unwrap();
+        let named = if first["as"].text() == "freelist" { freelist } else { named(bytes, root, first) };
+        assert_eq!(named, in_use);
+        assert_ne!((first, in_use), (&context["named_by"], page));
+    }
+    if number == 7 {
+        check_range(bytes, told, page, told["element"].number().unwrap());
+    }
+    if context.has("header") {
+        let start = (page * P) as usize;
+        assert_eq!(context["page_byte"].number(), Some(start as u64));
+        assert_eq!(context["header"]["count"].number(), Some(header(&bytes[start..]).count));
+    }
+    number
+}
+
+/// A damaged copy, at times with a branch that names pages at random, so that there are cycles.
+fn damaged(rng: &mut Rng) -> Vec<u8> {
+    let mut bytes = small::image();
+    damage(rng, &mut bytes[2 * P as usize..], P as usize);
+    if rng.one_in(2) {
+        let branch = rng.pick(&[3, 7]) * P as usize;
+        let element = rng.below(3);
+        let page = rng.pick(&[3, 3, 7, 7, 2, 4, 5, 8, 10, 12, u64::MAX]);
+        bytes[branch + 32 + 24 * element..][..8].copy_from_slice(&page.to_le_bytes());
+    }
+    bytes
+}
+
+#[test]
+fn what_is_told_holds_of_the_bytes() {
+    let mut rng = Rng::new(6);
+    let mut numbers: BTreeMap<u64, usize> = BTreeMap::new();
+    for _ in 0..ROUNDS {
+        let images: Vec<Vec<u8>> = (0..FILES).map(|_| damaged(&mut rng)).collect();
+        let files: Vec<Temporary> =
+            images.iter().enumerate().map(|(i, bytes)| Temporary::file(&format!("fuzz-{i}"), bytes)).collect();
+        let words = ["judge", "--json", "--jobs=2"].map(OsStr::new);
+        let done = run(&[words.as_slice(), &files.iter().map(Temporary::word).collect::<Vec<_>>()].concat());
+        assert!(matches!(done.status, 0 | 2) && done.err.is_empty(), "{}", done.err);
+        let told = json::lines(done.text());
+        assert_eq!(told.len(), FILES);
+        for ((bytes, told), file) in images.iter().zip(&told).zip(&files) {
+            assert_eq!(told["file"].text(), file.path.to_str().unwrap());
+            *numbers.entry(check(bytes, told)).or_default() += 1;
+        }
+    }
+    for number in [0, 2, 3, 4, 5, 6, 7, 8] {
+        assert!(numbers.get(&number).is_some_and(|times| *times >= 20), "{number}: {numbers:?}");
+    }
+}
+
+#[test]
+fn lookups_in_damaged_images_tell_their_way() {
+    let mut rng = Rng::new(7);
+    let mut faults = 0;
+    for _ in 0..400 {
+        let bytes = damaged(&mut rng);
+        let file = Temporary::file("fuzz-get", &bytes);
+        let key = rng.pick(&small::KEYS);
+        let words = ["get", "--json"].map(OsStr::new);
+        let told =
+            json::parse(run(&[words.as_slice(), &[file.word(), OsStr::new("--"), OsStr::new(key)]].concat()).text());
+        if told["verdict"].text() == "refused" {
+            faults += 1;
+            let page = told["page"].number().unwrap();
+            assert_eq!(named(&bytes, small::ROOT, &told["context"]["named_by"]), page, "{told:?}");
+        }
+    }
+    assert!(faults >= 50, "{faults}");
+}
