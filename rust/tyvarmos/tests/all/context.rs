@@ -85,6 +85,35 @@ fn headers_and_elements_are_decoded() {
 }
 
 #[test]
+fn a_number_with_several_causes_says_which() {
+    let cases = [
+        (8, 0, 4, "its id is 4"),
+        (8, 8, 4, "its type is 4 (freelist), not branch (1) or leaf (2)"),
+        (10, 24, 5, "with 5 overflow pages it ends on page 15, and 11 is the last"),
+        (10, 16, 0, "its count is 0, as only that of a root leaf may be"),
+        (10, 16, 32, "a table of 32 elements ends 1056 bytes after its start, and the block has 1024"),
+        (4, 32, 2, "its kind is 2, neither data (0) nor bucket (1)"),
+        (4, 32, 1, "its kind is bucket, and its value has 10 bytes, not 16"),
+        (4, 40, 8, "its key starts 40 bytes after the block's start, and the elements end at 128"),
+        (4, 56, 2_000, "its key and value end 2130 bytes after the block's start, and the block has 1024"),
+        (4, 80, 1, "\"a\" is not above \"ab\""),
+        (7, 32, 99, "the pages of a tree are 2 to 11"),
+        (FREELIST, 32, 12, "the id is 12, and pages that can be free are 2 to 11"),
+        (FREELIST, 32, 11, "11 is not above 11"),
+        (FREELIST, 8, 2, "its type is 2 (leaf), not freelist (4)"),
+    ];
+    for (page, at, number, cause) in cases {
+        let mut bytes = small::image();
+        put_u64(&mut bytes, (page * P) as usize + at, number);
+        let file = Temporary::file("cause", &bytes);
+        let words = run_on("judge", &file, &[]);
+        assert!(words.text().contains(&format!("  cause     {cause}\n")), "{cause}: {}", words.text());
+        let json = json::parse(run_on("judge", &file, &["--json"]).text());
+        assert_eq!(json["context"]["cause"].text(), cause);
+    }
+}
+
+#[test]
 fn a_key_outside_its_range_has_the_ends_of_it() {
     let (words, json) = told_of("page 10, element 0: ");
     let range = "from \"c\" (element 1 of page 3) up to, not including, \"p\" (element 2 of page 3)";

@@ -78,6 +78,7 @@ fn check(bytes: &[u8], told: &Value) -> u64 {
         assert_eq!(named, in_use);
         assert_ne!((first, in_use), (&context["named_by"], page));
     }
+    assert_eq!(context.has("cause"), (2..=6).contains(&number), "{told:?}");
     if number == 7 {
         check_range(bytes, told, page, told["element"].number().unwrap());
     }

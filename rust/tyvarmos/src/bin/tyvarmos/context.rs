@@ -2,6 +2,7 @@
 
 use tyvarmos::{Fault, Image, Number};
 
+use crate::cause;
 use crate::layout::{Block, Element, Header, Pages, Part, FREELIST, LEAF};
 use crate::meant::Meant;
 use crate::trace::{Named, Trace};
@@ -9,6 +10,8 @@ use crate::walk::Step;
 
 /// All that was found about a fault.
 pub struct Context {
+    /// Which cause of the number it is.
+    pub cause: Option<String>,
     /// What named the fault's page.
     pub named: Option<Place>,
     /// For 8, the page in question and what named it first.
@@ -64,6 +67,7 @@ impl Context {
             _ => None,
         };
         Context {
+            cause: cause::of(pages, block.as_ref(), fault, trace.named.as_ref()),
             header: block.as_ref().map(|block| (block.start, block.header)),
             element: block.as_ref().and_then(|block| numbers(block, fault.element?)),
             rows: block.map_or_else(|| naming_rows(pages, &trace.named), |block| rows(&block, fault)),

@@ -97,8 +97,18 @@ pub struct Part<'a> {
 impl<'a> Block<'a> {
     /// How many elements, or free ids, the header tells and the block can hold.
     pub fn count(&self) -> u64 {
-        let room = (self.bytes.len() as u64).saturating_sub(TABLE) / self.element_size();
+        let room = self.length().saturating_sub(TABLE) / self.element_size();
         self.header.count.min(room)
+    }
+
+    /// How many bytes it has.
+    pub fn length(&self) -> u64 {
+        self.bytes.len() as u64
+    }
+
+    /// Where in it a table of so many elements ends.
+    pub fn table_end(&self, count: u64) -> u128 {
+        u128::from(TABLE) + u128::from(count) * u128::from(self.element_size())
     }
 
     /// How long an element, or a free id, is.

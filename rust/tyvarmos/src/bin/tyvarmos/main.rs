@@ -2,6 +2,7 @@
 
 mod args;
 mod buckets;
+mod cause;
 mod context;
 mod descent;
 mod file;

@@ -16,6 +16,8 @@ use crate::words;
 
 /// More threads than this would wait for one disk.
 const MOST_THREADS: usize = 64;
+/// The judge of the deepest tree takes less than a tenth of it.
+const STACK: usize = 2_097_152;
 
 /// What is said about a file, or why nothing can be, and the exit status that it would have alone.
 enum Told {
@@ -31,7 +33,7 @@ pub fn run(options: &Options) -> Result<u8, Stop> {
     thread::scope(|scope| {
         let work = |send: Sender<(usize, Told)>| work(options, &next, &progress, &send);
         let threads = options.jobs.min(options.files.len()).min(MOST_THREADS);
-        let spawn = |send| Builder::new().spawn_scoped(scope, move || work(send)).is_ok();
+        let spawn = |send| Builder::new().stack_size(STACK).spawn_scoped(scope, move || work(send)).is_ok();
         if (0..threads).filter(|_| spawn(send.clone())).count() == 0 {
             work(send.clone());
         }

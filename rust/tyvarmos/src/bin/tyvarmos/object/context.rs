@@ -11,6 +11,9 @@ use crate::walk::Step;
 pub fn of(context: &Context, meant: &Meant) -> Object {
     let mut object = Object::default();
     object.number("proved", false);
+    if let Some(cause) = &context.cause {
+        object.text("cause", cause);
+    }
     object.number_or_null("named_by", context.named.as_ref().map(|place| place_object(place, meant)));
     if let Some((page, place)) = &context.first {
         object.number("page_in_use", page);

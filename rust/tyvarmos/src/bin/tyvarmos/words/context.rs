@@ -9,7 +9,7 @@ use crate::walk::Step;
 
 /// The lines that a person reads below a refusal.
 pub fn lines(context: &Context, meant: &Meant, page: u64) -> String {
-    let mut lines = Vec::new();
+    let mut lines: Vec<String> = context.cause.iter().map(|cause| format!("cause     {cause}")).collect();
     if let Some(place) = &context.named {
         lines.push(format!("path      {}", path(&place.named, meant, page)));
         lines.push(format!("named     page {page} is named by {}", named_by(place, meant)));
