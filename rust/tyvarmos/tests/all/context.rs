@@ -122,6 +122,10 @@ fn a_key_outside_its_range_has_the_ends_of_it() {
     assert_eq!((range["low"]["key"].text(), range["high"]["key_hex"].text()), ("c", "70"));
     assert_eq!((range["high"]["page"].number(), range["high"]["element"].number()), (Some(3), Some(2)));
     assert_eq!(range["crossed"].text(), "high");
+    assert_eq!(json["context"]["keys"].list()[0].text(), "s");
+    let (_, order) = told_of("page 4, element 1: this key");
+    let keys: Vec<&str> = order["context"]["keys"].list().iter().map(Value::text).collect();
+    assert_eq!(keys, ["ab", "a"]);
     let mut bytes = small::image();
     bytes[10_400] = b'a';
     let file = Temporary::file("range-low", &bytes);
@@ -134,14 +138,14 @@ fn a_key_outside_its_range_has_the_ends_of_it() {
 fn a_page_reached_twice_has_both_places() {
     let (words, json) = told_of("page 8: the page is reached twice");
     assert!(words.contains("page 8 is named by the command line\n"), "{words}");
-    assert!(words.contains("  in use    page 8 is named by element 0 of page 7, at byte 7200 too\n"), "{words}");
+    assert!(words.contains("  in use    page 8 is also named by element 0 of page 7, at byte 7200\n"), "{words}");
     assert_eq!(json["context"]["first_named_by"]["page"].number(), Some(7));
     assert_eq!((json["page"].number(), &json["element"]), (Some(8), &Value::Null));
     let mut bytes = small::image();
     put_u64(&mut bytes, (7 * P) as usize + 32 + 24, 3);
     let cycle = run_on("judge", &Temporary::file("cycle", &bytes), &[]);
     assert!(cycle.text().contains("page 3 is named by element 1 of page 7, at byte 7224\n"), "{}", cycle.text());
-    assert!(cycle.text().contains("page 3 is named by meta page 1, as root page, at byte 1080 too\n"));
+    assert!(cycle.text().contains("page 3 is also named by meta page 1, as root page, at byte 1080\n"));
 }
 
 #[test]
@@ -156,7 +160,11 @@ fn a_free_id_in_use_names_its_element_and_its_place() {
             "{}",
             words.text()
         );
-        assert!(words.text().contains(&format!("  in use    page {id} is named by {place} too\n")), "{}", words.text());
+        assert!(
+            words.text().contains(&format!("  in use    page {id} is also named by {place}\n")),
+            "{}",
+            words.text()
+        );
         assert!(words.text().contains(&format!("  element   at byte {}: free id {id}\n", 2_080 + 8 * i)));
         let json = json::parse(run_on("judge", &file, &["--json"]).text());
         assert_eq!(json["element"].number(), Some(i as u64));
@@ -166,7 +174,7 @@ fn a_free_id_in_use_names_its_element_and_its_place() {
     put_u64(&mut bytes, (FREELIST * P) as usize + 32, FREELIST);
     let own = run_on("judge", &Temporary::file("own-id", &bytes), &[]);
     assert!(
-        own.text().contains("page 2 is named by meta page 1, as freelist page, at byte 1104 too\n"),
+        own.text().contains("page 2 is also named by meta page 1, as freelist page, at byte 1104\n"),
         "{}",
         own.text()
     );

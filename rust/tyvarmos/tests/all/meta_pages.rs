@@ -101,5 +101,9 @@ fn a_file_without_metas_shows_what_is_there() {
     assert!(none.text().contains(": refused, nothing judged\n  no meta page can be used: the hash"));
     assert!(none.text().contains("  meta 0    cannot be used: the hash of the meta page is wrong (13)\n"));
     assert!(none.text().contains("it says: type 3, transaction 9, root page 144,"));
+    assert!(none.text().contains("  meta 1    cannot be used: the hash of the meta page is wrong (13)\n"));
+    let says = "meta page 1 says --page-size 1024 --page-count 147 --root 65 --freelist 66";
+    let hint = format!("  to go on  give --page-size, --page-count, --root and --freelist; {says}\n");
+    assert!(none.text().contains(&hint), "{}", none.text());
     assert!(none.text().contains("  the meta on page 0, at byte 0:\n    00000000  00 00"));
 }

@@ -81,5 +81,5 @@ fn order(block: &Block, i: u64) -> Option<String> {
     if block.header.kind == FREELIST {
         return Some(format!("{} is not above {}", block.number(i)?, block.number(before)?));
     }
-    Some(format!("{} is not above {}", hex::shown(block.key(i)?), hex::shown(block.key(before)?)))
+    Some(format!("{} is not above {}", hex::brief(block.key(i)?), hex::brief(block.key(before)?)))
 }

@@ -20,6 +20,8 @@ pub struct Context {
     pub header: Option<(u64, Header)>,
     /// The numbers of the fault's element, and where in the file it stands.
     pub element: Option<(u64, Numbers)>,
+    /// For 7 the key, for 6 the key before it and the key.
+    pub keys: Vec<Vec<u8>>,
     /// For 7, the range that the key is outside of.
     pub range: Option<Range>,
     /// The bytes in question, in rows.
@@ -70,6 +72,7 @@ impl Context {
             cause: cause::of(pages, block.as_ref(), fault, trace.named.as_ref()),
             header: block.as_ref().map(|block| (block.start, block.header)),
             element: block.as_ref().and_then(|block| numbers(block, fault.element?)),
+            keys: block.as_ref().map_or(Vec::new(), |block| keys(block, fault)),
             rows: block.map_or_else(|| naming_rows(pages, &trace.named), |block| rows(&block, fault)),
             named: trace.named.map(place),
             first: trace.first.map(|(page, named)| (page, place(named))),
@@ -97,6 +100,16 @@ fn numbers(block: &Block, i: u64) -> Option<(u64, Numbers)> {
         _ => Numbers::Branch(block.element(i)?),
     };
     Some((block.element_byte(i)?, numbers))
+}
+
+/// The key that a fault with 6 or 7 is about; before it, for 6, the key that it is not above.
+fn keys(block: &Block, fault: &Fault) -> Vec<Vec<u8>> {
+    let elements = match (fault.number, fault.element) {
+        (Number::Order, Some(i)) if block.header.kind != FREELIST => i.saturating_sub(1)..=i,
+        (Number::Range, Some(i)) => i..=i,
+        _ => return Vec::new(),
+    };
+    elements.filter_map(|i| block.key(i)).map(<[u8]>::to_vec).collect()
 }
 
 /// The range that the branches above give a page, and on which side of it a key of the page is.

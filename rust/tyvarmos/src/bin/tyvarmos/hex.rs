@@ -6,6 +6,7 @@ use crate::text;
 
 const ROW: usize = 16;
 const MOST_ROWS: usize = 8;
+const LONGEST: usize = 64;
 
 /// The bytes as digits, two for each.
 pub fn digits(bytes: &[u8]) -> String {
@@ -34,6 +35,15 @@ pub fn shown(bytes: &[u8]) -> String {
     }
 }
 
+/// The same, cut after the first bytes where it is long.
+pub fn brief(bytes: &[u8]) -> String {
+    if bytes.len() <= LONGEST {
+        return shown(bytes);
+    }
+    let cut = (LONGEST - 3..=LONGEST).rev().find(|end| std::str::from_utf8(&bytes[..*end]).is_ok()).unwrap_or(LONGEST);
+    format!("{}.. ({} bytes)", shown(&bytes[..cut]), bytes.len())
+}
+
 /// Rows of digits and characters, each with its place; a long stretch is cut.
 pub fn rows(at: u64, bytes: &[u8]) -> String {
     let mut text = String::new();
@@ -48,4 +58,20 @@ pub fn rows(at: u64, bytes: &[u8]) -> String {
         let _ = writeln!(text, "    and {left} bytes more");
     }
     text
+}
+
+#[cfg(test)]
+mod tests {
+    use super::*;
+
+    #[test]
+    fn a_long_key_is_cut_between_characters() {
+        assert_eq!(brief(b"short"), "\"short\"");
+        assert_eq!(brief(&[b'x'; 64]), format!("\"{}\"", "x".repeat(64)));
+        assert_eq!(brief(&[b'x'; 65]), format!("\"{}\".. (65 bytes)", "x".repeat(64)));
+        assert_eq!(brief("ö".repeat(50).as_bytes()), format!("\"{}\".. (100 bytes)", "ö".repeat(32)));
+        let odd = ["x".as_bytes(), "ö".repeat(50).as_bytes()].concat();
+        assert_eq!(brief(&odd), format!("\"x{}\".. (101 bytes)", "ö".repeat(31)));
+        assert_eq!(brief(&[0xFF; 1_000]), format!("0x{}.. (1000 bytes)", "ff".repeat(64)));
+    }
 }

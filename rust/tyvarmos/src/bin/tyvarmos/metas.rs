@@ -43,11 +43,16 @@ pub struct Fields {
 }
 
 impl Metas {
-    /// The meta pages in a file's first bytes, for a page size that is given or to be found.
+    /// The meta pages in a file's first bytes, for a page size that is given or to be found; where none is found, meta
+    /// page 1 is looked for where page 0 says, though its hash is wrong.
     pub fn of(head: &[u8], holes: &[Hole], page_size: Option<u64>) -> Metas {
+        let named = || Fields::at(head, 0).filter(|fields| fields.kind == layout::META).map(|fields| fields.page_size);
         let found = match page_size {
             Some(page_size) => Meta::both_with_page_size(head, page_size),
-            None => Meta::both(head),
+            None => Meta::both(head).or_else(|fault| {
+                let both = named().and_then(|page_size| Meta::both_with_page_size(head, page_size).ok());
+                both.ok_or(fault)
+            }),
         };
         let second = found.ok().map(|metas| metas.page_size);
         let pages = [Some(0), second].map(|start| start.map_or(Page::default(), |start| Page::at(head, holes, start)));
@@ -70,6 +75,17 @@ impl Metas {
             (None, Err(fault)) if page == 0 => Err(fault.to_string()),
             (None, Err(_)) => Err("no page size is known, so that it cannot be looked for".to_string()),
         }
+    }
+
+    /// The options that say what the later of two meta pages says, right or wrong.
+    pub fn as_options(&self) -> Option<String> {
+        let told = |page: usize| {
+            self.pages[page].fields.filter(|fields| fields.kind == layout::META).map(|fields| (page, fields))
+        };
+        let (page, fields) = [told(0), told(1)].into_iter().flatten().max_by_key(|(_, fields)| fields.tx_id)?;
+        let Fields { page_size, page_count, root_page, freelist_page, .. } = fields;
+        let sizes = format!("--page-size {page_size} --page-count {page_count}");
+        Some(format!("meta page {page} says {sizes} --root {root_page} --freelist {freelist_page}"))
     }
 
     /// The pages that could not be read.

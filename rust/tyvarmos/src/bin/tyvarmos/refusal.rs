@@ -58,7 +58,10 @@ impl Refusal {
         };
         let to_go_on = match usable {
             Some(meta) => format!("meta page {} can be used: leave --meta out", meta.meta_page),
-            None => "give --page-size, --page-count, --root and --freelist".to_string(),
+            None => {
+                let says = metas.as_options().map_or(String::new(), |says| format!("; {says}"));
+                format!("give --page-size, --page-count, --root and --freelist{says}")
+            }
         };
         Refusal { kind, sentence, to_go_on: Some(to_go_on), fault: Some(fault), context: None }
     }

@@ -203,7 +203,7 @@ fn bucket_names(buckets: &Buckets) -> String {
     if buckets.count == 0 {
         return "none".to_string();
     }
-    let names: Vec<String> = buckets.names.iter().map(|name| hex::shown(name)).collect();
+    let names: Vec<String> = buckets.names.iter().map(|name| hex::brief(name)).collect();
     let more = buckets.count - names.len() as u64;
     let more = if more > 0 { format!(" and {more} more") } else { String::new() };
     format!("{}{more}: not judged here, name one with --bucket", names.join(", "))

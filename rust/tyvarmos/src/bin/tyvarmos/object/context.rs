@@ -27,6 +27,9 @@ pub fn of(context: &Context, meant: &Meant) -> Object {
         object.number("element_byte", byte);
         object.number("element", number_object(numbers));
     }
+    if !context.keys.is_empty() {
+        object.byte_strings("keys", &context.keys);
+    }
     if let Some(range) = &context.range {
         object.number("range", range_object(range));
     }

@@ -15,7 +15,7 @@ pub fn lines(context: &Context, meant: &Meant, page: u64) -> String {
         lines.push(format!("named     page {page} is named by {}", named_by(place, meant)));
     }
     if let Some((page, place)) = &context.first {
-        lines.push(format!("in use    page {page} is named by {} too", named_by(place, meant)));
+        lines.push(format!("in use    page {page} is also named by {}", named_by(place, meant)));
     }
     if let Some((byte, header)) = &context.header {
         lines.push(format!("header    page {page} at byte {byte}: {}", header_words(header)));
@@ -80,7 +80,7 @@ fn number_words(numbers: &Numbers) -> String {
 fn range_words(range: &Range) -> String {
     let end = |end: &End| {
         let Step { page, element } = end.step;
-        format!("{} (element {element} of page {page})", hex::shown(&end.key))
+        format!("{} (element {element} of page {page})", hex::brief(&end.key))
     };
     let low = range.low.as_ref().map_or("the lowest key".to_string(), end);
     let high = range
