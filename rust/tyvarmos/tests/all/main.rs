@@ -15,6 +15,7 @@ mod many;
 mod meta;
 mod meta_pages;
 mod names;
+mod papers;
 mod probe;
 mod rng;
 mod scope;
