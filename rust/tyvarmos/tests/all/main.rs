@@ -1,5 +1,7 @@
 //! Tests of the wrapper and of the command, beside the plain reading of the rules in compare/reading.
 
+#[cfg(all(target_os = "linux", target_arch = "x86_64"))]
+mod bad_media;
 mod boundary;
 mod breaches;
 mod command;

@@ -140,14 +140,13 @@ fn whole_pages(held: u64, page_size: u64) -> String {
 fn needed(image: &Image, trace: &Trace, fault: Option<&Fault>, unread: &BTreeSet<u64>) -> BTreeSet<u64> {
     let pages = Pages::of(image);
     let looked_at = |page: u64| {
-        let block = pages.block(page)?;
-        let number = fault.filter(|fault| fault.page == Some(page)).map(|fault| fault.number);
-        match number {
+        let fault = fault.filter(|fault| fault.page == Some(page));
+        match fault.map(|fault| fault.number) {
             Some(Number::TooDeep | Number::PageNumber) => None,
             Some(Number::Header | Number::Table) => Some(page..=page),
-            _ => Some(page..=block.last),
+            _ => Some(page..=pages.block(page)?.last),
         }
     };
-    let looked_at = trace.met.iter().filter_map(|page| looked_at(*page)).flatten();
-    looked_at.filter(|page| unread.contains(page)).collect()
+    let looked_at = trace.met.iter().filter_map(|page| looked_at(*page));
+    looked_at.flat_map(|pages| unread.range(pages)).copied().collect()
 }

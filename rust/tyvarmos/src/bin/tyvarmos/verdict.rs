@@ -132,10 +132,7 @@ mod tests {
     fn pages_that_the_tree_does_not_need_are_told_and_no_more() {
         let (verdict, said) = verdict(&[sector(10), sector(140), sector(141)], &[]);
         assert_eq!((verdict.status(), verdict.is_plain()), (0, false));
-        assert!(
-            said.contains("3 pages could not be read: 10, 140 to 141, and the tree needs none of them\n"),
-            "{said}"
-        );
+        assert!(said.contains("3 pages could not be read: 10, 140 to 141; the tree needs none of them\n"), "{said}");
     }
 
     #[test]
@@ -187,6 +184,7 @@ mod tests {
         let (both, said) = verdict(&[(0, 1), (PAGE, PAGE + 1)], &[]);
         assert_eq!(both.status(), UNREADABLE);
         assert!(said.contains("no meta page can be used: it could not be read: from byte 0 on"), "{said}");
+        assert!(said.starts_with("dying: nothing judged\n"), "{said}");
         let words = ["--page-size=1024", "--page-count=146", "--root=65", "--freelist=66"];
         assert_eq!(verdict(&[(0, 1), (PAGE, PAGE + 1)], &words).0.status(), 0);
     }

@@ -102,18 +102,14 @@ pub fn below(refusal: &Refusal, meant: Option<&Meant>) -> String {
 
 /// Which tree was refused, or why none was, as the beginning of a sentence.
 pub fn refused(refusal: &Refusal, meant: Option<&Meant>, options: &Options) -> String {
-    let Some(meant) = meant else {
-        return match refusal.kind {
-            Kind::Beyond => "beyond the limits of this version".to_string(),
-            _ => "refused, nothing judged".to_string(),
-        };
-    };
-    let towards = options.buckets.get(meant.names.len());
+    let towards = meant.and_then(|meant| options.buckets.get(meant.names.len()));
     let way = towards.map_or(String::new(), |name| format!(" on the way to bucket {}", hex::shown(name)));
-    match refusal.kind {
-        Kind::Broken => format!("{} refused{way}", meant.name()),
-        Kind::Beyond => "beyond the limits of this version".to_string(),
-        Kind::Unread(_) => format!("{} not judged{way}", meant.name()),
+    match (&refusal.kind, meant) {
+        (Kind::Beyond, _) => "beyond the limits of this version".to_string(),
+        (Kind::Broken, None) => "refused, nothing judged".to_string(),
+        (Kind::Unread(_), None) => "nothing judged".to_string(),
+        (Kind::Broken, Some(meant)) => format!("{} refused{way}", meant.name()),
+        (Kind::Unread(_), Some(meant)) => format!("{} not judged{way}", meant.name()),
     }
 }
 
@@ -138,13 +134,16 @@ fn headline(verdict: &Verdict, options: &Options) -> String {
 /// What is to be said besides the outcome.
 fn notes(verdict: &Verdict) -> Vec<String> {
     let unread = &verdict.read.unread;
-    let mut notes = verdict.warnings.clone();
-    if !unread.is_empty() {
-        let pages = if unread.len() == 1 { "page" } else { "pages" };
-        let outcome = if verdict.status() == 0 { ", and the tree needs none of them" } else { "" };
-        notes.push(format!("{} {pages} could not be read: {}{outcome}", unread.len(), media::listed(unread)));
-    }
-    notes
+    let (pages, needs) = match unread.len() {
+        1 => ("page", "does not need it"),
+        _ => ("pages", "needs none of them"),
+    };
+    let told = match &verdict.outcome {
+        Outcome::Sound { .. } => format!("; the tree {needs}"),
+        _ => String::new(),
+    };
+    let lost = format!("{} {pages} could not be read: {}{told}", unread.len(), media::listed(unread));
+    verdict.warnings.iter().cloned().chain((!unread.is_empty()).then_some(lost)).collect()
 }
 
 fn warnings(verdict: &Verdict) -> String {
