@@ -27,8 +27,8 @@ pub struct Hole {
     pub why: String,
 }
 
-/// Fills these bytes from a place on and answers the holes, which are zeros: a unit long or more, each unit tried alone.
-/// Told of the bytes gone through after each piece. An end before these bytes' end is the one error.
+/// Fills these bytes from a place on, and answers the holes, which are zeros: a piece that cannot be read is tried unit
+/// by unit. Tells how many bytes it has gone through after each piece. A file that ends too early is the one error.
 pub fn fill(
     media: &dyn Media,
     at: u64,
