@@ -77,6 +77,18 @@ fn one_meta_page_may_be_asked_for() {
 }
 
 #[test]
+fn a_meta_page_that_is_not_gone_by_is_no_warning() {
+    let words = ["--page-size=1024", "--page-count=146", "--root=65", "--freelist=66"];
+    let judge = run_on("judge", &flipped(1), &words);
+    assert_eq!(judge.status, 0);
+    assert!(judge.text().contains("  by        the command line\n"), "{}", judge.text());
+    assert!(!judge.text().contains("warning"));
+    let get = run_on("get", &flipped(1), &[words[0], words[1], words[2], "motto", "--bucket=world"]);
+    assert_eq!((get.text(), get.err.as_str()), ("Hold the wall.", ""));
+    assert!(run_on("judge", &flipped(1), &words[1..]).text().contains("  warning   an older transaction is read, 9,"));
+}
+
+#[test]
 fn json_has_both_meta_pages() {
     let metas = |file: &Temporary| json::parse(run_on("judge", file, &["--json"]).text())["metas"].list().to_vec();
     let whole = metas(&Temporary::file("two-metas", &example()));

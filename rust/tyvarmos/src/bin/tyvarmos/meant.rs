@@ -13,6 +13,7 @@ const FREELIST_AT: u64 = 80;
 #[derive(Clone)]
 pub struct Meant {
     pub tree: Tree,
+    /// The meta page that some of the numbers are taken from.
     pub meta: Option<Meta>,
     /// The names of the buckets that lead to it, none for the main tree.
     pub names: Vec<Vec<u8>>,
@@ -26,25 +27,25 @@ impl Meant {
     /// The main tree that the options name, and the meta page where they leave something out.
     pub fn main(options: &Options, metas: &Metas) -> Result<Meant, Fault> {
         let numbers = options.numbers;
-        let meta = metas.chosen(options.meta);
         let unread = (options.action == Action::Get).then_some(0);
         let given = (numbers.page_size, numbers.page_count, numbers.root, numbers.freelist.or(unread));
-        let tree = match given {
+        let (root_given, freelist_given) = (numbers.root.is_some(), numbers.freelist.is_some());
+        let (tree, meta) = match given {
             (Some(page_size), Some(page_count), Some(root_page), Some(freelist_page)) => {
-                Tree { page_size, page_count, root_page, freelist_page }
+                (Tree { page_size, page_count, root_page, freelist_page }, None)
             }
             _ => {
-                let meta = meta?;
-                Tree {
+                let meta = metas.chosen(options.meta)?;
+                let tree = Tree {
                     page_size: meta.page_size,
                     page_count: numbers.page_count.unwrap_or(meta.page_count),
                     root_page: numbers.root.unwrap_or(meta.root_page),
                     freelist_page: numbers.freelist.unwrap_or(meta.freelist_page),
-                }
+                };
+                (tree, Some(meta))
             }
         };
-        let (root_given, freelist_given) = (numbers.root.is_some(), numbers.freelist.is_some());
-        Ok(Meant { tree, meta: meta.ok(), names: Vec::new(), bucket: None, root_given, freelist_given })
+        Ok(Meant { tree, meta, names: Vec::new(), bucket: None, root_given, freelist_given })
     }
 
     /// The image of this tree in the file's bytes.

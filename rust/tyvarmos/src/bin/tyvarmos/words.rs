@@ -30,7 +30,7 @@ pub fn of_judge(verdict: &Verdict, options: &Options, source: &Source) -> String
     if let Outcome::Absent(_) = verdict.outcome {
         return text;
     }
-    text += &verdict.meant.as_ref().map_or(String::new(), |meant| about(meant, options));
+    text += &about(verdict, options);
     match &verdict.outcome {
         Outcome::Sound { entries, blocks, buckets, time, .. } => {
             let _ = writeln!(text, "  counted   {entries} entries in {blocks} blocks, the freelist's included");
@@ -68,7 +68,7 @@ pub fn of_stat(verdict: &Verdict, options: &Options, source: &Source) -> String 
     let mut text = format!("{}\n  file      {} bytes\n", text::path(&source.path), source.length);
     text += &metas(&verdict.metas);
     text += &warnings(verdict);
-    text += &verdict.meant.as_ref().map_or(String::new(), |meant| about(meant, options));
+    text += &about(verdict, options);
     if let Some((_, bucket)) = verdict.meant.as_ref().and_then(|meant| meant.bucket) {
         let _ = writeln!(text, "  bucket    next number {}", bucket.next_int);
     }
@@ -155,7 +155,10 @@ fn to_go_on(refusal: &Refusal) -> String {
 }
 
 /// The tree and the pages that were judged, a line each.
-fn about(meant: &Meant, options: &Options) -> String {
+fn about(verdict: &Verdict, options: &Options) -> String {
+    let Some(meant) = &verdict.meant else {
+        return String::new();
+    };
     let the = if meant.names.is_empty() { "the " } else { "" };
     let Tree { page_size, page_count, root_page, freelist_page } = meant.tree;
     format!(
@@ -163,14 +166,15 @@ fn about(meant: &Meant, options: &Options) -> String {
            image     {page_count} pages of {page_size} bytes\n  \
            by        {}\n",
         meant.name(),
-        by_what(meant, options)
+        by_what(meant, options, &verdict.metas)
     )
 }
 
 /// Where the numbers of a tree come from.
-fn by_what(meant: &Meant, options: &Options) -> String {
+fn by_what(meant: &Meant, options: &Options, metas: &Metas) -> String {
     let Some(meta) = &meant.meta else {
-        return "the command line; no meta page can be used".to_string();
+        let lost = if metas.chosen(None).is_err() { "; no meta page can be used" } else { "" };
+        return format!("the command line{lost}");
     };
     let and = if options.numbers == Numbers::default() { "" } else { ", and the command line" };
     format!("meta page {}, transaction {}, next number {}{and}", meta.meta_page, meta.tx_id, meta.next_int)
