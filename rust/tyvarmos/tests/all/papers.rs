@@ -1,13 +1,17 @@
 //! The papers' examples of the command show what it prints.
 
+use std::collections::BTreeSet;
 use std::fs;
 use std::process::Command;
 
-use reading::layout::header;
+use reading::layout::{header, put_u64};
 use tyvarmos::Image;
 
-use crate::example;
-use crate::files::{Done, Temporary};
+use crate::breaches;
+use crate::command::run_with;
+use crate::files::{run_on, Done, Temporary};
+use crate::json::{self, Value};
+use crate::{example, small};
 
 const TOP: &str = concat!(env!("CARGO_MANIFEST_DIR"), "/../..");
 
@@ -68,4 +72,57 @@ fn the_examples_say_how_many_pages_the_map_takes() {
     let world = Image::of_file(&bytes).unwrap().bucket(b"world").unwrap().unwrap().tree();
     assert_eq!(header(&bytes[(world.root_page * world.page_size) as usize..]).overflow + 1, 5);
     assert!(paper("examples/README.md").contains("the map has 4,860 bytes: a block of five pages"));
+}
+
+/// Adds the name of each field of a value, and of what it holds.
+fn add_names(value: &Value, names: &mut BTreeSet<String>) {
+    match value {
+        Value::Object(fields) => {
+            for (name, value) in fields {
+                names.insert(name.clone());
+                add_names(value, names);
+            }
+        }
+        Value::List(values) => values.iter().for_each(|value| add_names(value, names)),
+        _ => {}
+    }
+}
+
+/// The names of all fields that the command prints about files of many kinds.
+fn printed() -> BTreeSet<String> {
+    let mut names = BTreeSet::new();
+    let mut add = |done: Done| add_names(&json::parse(done.text()), &mut names);
+    for breach in breaches::all() {
+        add(run_with("judge", &Temporary::file("printed", &breach.bytes), &["--json"], breach.sizes));
+    }
+    let mut branch = small::image();
+    put_u64(&mut branch, 7 * 1_024 + 32 + 24 + 16, u64::MAX);
+    add(run_on("judge", &Temporary::file("branch", &branch), &["--json"]));
+    let mut bytes = example();
+    bytes[65 * 1_024] ^= 1;
+    add(run_on("stat", &Temporary::file("printed-way", &bytes), &["--json", "--bucket", "world"]));
+    add(run_on("judge", &Temporary::file("printed-empty", &[]), &["--json"]));
+    let words: [&[&str]; 4] =
+        [&["stat", "--bucket=world"], &["get", "motto", "--bucket=world"], &["get", "no"], &["judge"]];
+    for words in words {
+        add(run_in(TOP, &[&words[..1], &["examples/shard.db", "--json"], &words[1..]].concat()));
+    }
+    names
+}
+
+#[test]
+fn every_json_field_is_told_of() {
+    let paper = paper("docs/JSON.md");
+    let told: BTreeSet<&str> = paper.split('`').skip(1).step_by(2).collect();
+    let mut printed = printed();
+    printed.insert("pages_needed".to_string());
+    let untold: Vec<&String> = printed.iter().filter(|name| !told.contains(name.as_str())).collect();
+    assert!(untold.is_empty(), "{untold:?}");
+    let values = "--json x x_hex sound found absent refused beyond_limits unreadable data bucket main meta_page \
+                  bucket_entry command_line child root freelist element";
+    let unknown: Vec<&&str> = told
+        .iter()
+        .filter(|name| !printed.contains(**name) && !values.split_whitespace().any(|v| v == **name))
+        .collect();
+    assert!(unknown.is_empty(), "{unknown:?}");
 }
