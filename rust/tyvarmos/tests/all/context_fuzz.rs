@@ -6,13 +6,11 @@ use std::ffi::OsStr;
 use reading::layout::{header, u64_at, BRANCH, LEAF};
 
 use crate::damage::damage;
+use crate::example;
 use crate::files::{run, Temporary};
 use crate::json::{self, Value};
 use crate::rng::Rng;
 use crate::small::{self, P};
-
-const ROUNDS: usize = 12;
-const FILES: usize = 400;
 
 /// The key of an element that is sound.
 fn key(bytes: &[u8], page: u64, element: u64) -> &[u8] {
@@ -57,7 +55,7 @@ fn check_range(bytes: &[u8], told: &Value, page: u64, element: u64) {
 
 /// Checks what is told about one damaged image, and answers the number.
 fn check(bytes: &[u8], told: &Value) -> u64 {
-    if told["verdict"].text() == "sound" {
+    if matches!(told["verdict"].text(), "sound" | "absent") {
         return 0;
     }
     let (number, page) = (told["number"].number().unwrap(), told["page"].number());
@@ -103,27 +101,52 @@ fn damaged(rng: &mut Rng) -> Vec<u8> {
     bytes
 }
 
+/// Judges images with these words, checks what is told about each, and adds the numbers.
+fn check_all(images: &[Vec<u8>], words: &[&str], numbers: &mut BTreeMap<u64, usize>) {
+    let name = |i: usize| format!("fuzz-{i}");
+    let files: Vec<Temporary> = images.iter().enumerate().map(|(i, bytes)| Temporary::file(&name(i), bytes)).collect();
+    let words = ["judge", "--json", "--jobs=2"].iter().chain(words).map(OsStr::new);
+    let done = run(&words.chain(files.iter().map(Temporary::word)).collect::<Vec<_>>());
+    assert!(matches!(done.status, 0..=2) && done.err.is_empty(), "{}", done.err);
+    let told = json::lines(done.text());
+    assert_eq!(told.len(), images.len());
+    for ((bytes, told), file) in images.iter().zip(&told).zip(&files) {
+        assert_eq!(told["file"].text(), file.path.to_str().unwrap());
+        *numbers.entry(check(bytes, told)).or_default() += 1;
+    }
+}
+
+fn check_seen(numbers: &BTreeMap<u64, usize>, wanted: &[u64]) {
+    for number in wanted {
+        assert!(numbers.get(number).is_some_and(|times| *times >= 20), "{number}: {numbers:?}");
+    }
+}
+
 #[test]
 fn what_is_told_holds_of_the_bytes() {
     let mut rng = Rng::new(6);
-    let mut numbers: BTreeMap<u64, usize> = BTreeMap::new();
-    for _ in 0..ROUNDS {
-        let images: Vec<Vec<u8>> = (0..FILES).map(|_| damaged(&mut rng)).collect();
-        let files: Vec<Temporary> =
-            images.iter().enumerate().map(|(i, bytes)| Temporary::file(&format!("fuzz-{i}"), bytes)).collect();
-        let words = ["judge", "--json", "--jobs=2"].map(OsStr::new);
-        let done = run(&[words.as_slice(), &files.iter().map(Temporary::word).collect::<Vec<_>>()].concat());
-        assert!(matches!(done.status, 0 | 2) && done.err.is_empty(), "{}", done.err);
-        let told = json::lines(done.text());
-        assert_eq!(told.len(), FILES);
-        for ((bytes, told), file) in images.iter().zip(&told).zip(&files) {
-            assert_eq!(told["file"].text(), file.path.to_str().unwrap());
-            *numbers.entry(check(bytes, told)).or_default() += 1;
+    let mut numbers = BTreeMap::new();
+    for _ in 0..12 {
+        let images: Vec<Vec<u8>> = (0..400).map(|_| damaged(&mut rng)).collect();
+        check_all(&images, &[], &mut numbers);
+    }
+    check_seen(&numbers, &[0, 2, 3, 4, 5, 6, 7, 8]);
+}
+
+#[test]
+fn what_is_told_of_a_bucket_holds_of_the_bytes() {
+    let mut rng = Rng::new(8);
+    let mut numbers = BTreeMap::new();
+    for _ in 0..5 {
+        let mut images = vec![example(); 100];
+        for bytes in &mut images {
+            for _ in 0..1 + rng.below(15) {
+                damage(&mut rng, &mut bytes[2 * P as usize..146 * P as usize], P as usize);
+            }
         }
+        check_all(&images, &["--bucket=characters"], &mut numbers);
     }
-    for number in [0, 2, 3, 4, 5, 6, 7, 8] {
-        assert!(numbers.get(&number).is_some_and(|times| *times >= 20), "{number}: {numbers:?}");
-    }
+    check_seen(&numbers, &[0, 3, 4, 5, 6]);
 }
 
 #[test]
