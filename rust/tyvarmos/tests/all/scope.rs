@@ -43,6 +43,12 @@ fn json_has_a_scope() {
 }
 
 #[test]
+fn without_a_tree_there_is_no_scope() {
+    let file = Temporary::file("no-tree", &[0; 5_000]);
+    assert_eq!(json::parse(run_on("judge", &file, &["--json"]).text())["scope"], Value::Null);
+}
+
+#[test]
 fn buckets_are_counted_over_all_leaves() {
     let file = Temporary::file("one-bucket", &small::image());
     assert!(run_on("judge", &file, &[]).text().contains("main tree sound, 1 bucket not judged\n"));

@@ -9,7 +9,7 @@ use std::path::{Path, PathBuf};
 use tyvarmos::{Image, Number, Tree};
 
 use crate::layout;
-use crate::media::{self, Hole, Media};
+use crate::media::{self, Hole, Media, Told};
 use crate::stop::Stop;
 
 /// Two pages of the greatest size: as much as the meta pages can take.
@@ -26,6 +26,17 @@ pub struct Source {
     /// The first bytes, and which of them could not be read.
     pub head: Vec<u8>,
     pub holes: Vec<Hole>,
+}
+
+/// How long the file or disk at a path is, 0 where that is not known.
+pub fn length(path: &Path) -> u64 {
+    match fs::metadata(path) {
+        Ok(metadata) if metadata.file_type().is_block_device() => {
+            File::open(path).and_then(|mut disk| disk.seek(SeekFrom::End(0))).unwrap_or(0)
+        }
+        Ok(metadata) => metadata.len(),
+        Err(_) => 0,
+    }
 }
 
 /// The bytes of an image, and the pages of it that could not be read, which are zeros.
@@ -69,7 +80,7 @@ impl Source {
     }
 
     /// The bytes of the image of a tree, or the first bytes where its sizes are refused. Told as `media::fill` tells.
-    pub fn image(&self, tree: &Tree, told: &dyn Fn(u64)) -> Result<Read, Stop> {
+    pub fn image(&self, tree: &Tree, told: &Told) -> Result<Read, Stop> {
         if tree.geometry(self.length).is_err() {
             return Ok(Read { bytes: self.head.clone(), ..Read::default() });
         }
@@ -97,7 +108,7 @@ impl Source {
     }
 
     /// Fills these bytes from a place in the file, as `media::fill` does.
-    fn fill(&self, at: u64, bytes: &mut [u8], unit: u64, told: &dyn Fn(u64)) -> Result<Vec<Hole>, Stop> {
+    fn fill(&self, at: u64, bytes: &mut [u8], unit: u64, told: &Told) -> Result<Vec<Hole>, Stop> {
         let filled = media::fill(self.media.as_ref(), at, bytes, unit, told);
         filled.map_err(|_| Stop::unreadable(&self.path, &"became shorter while it was read"))
     }

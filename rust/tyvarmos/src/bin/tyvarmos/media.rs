@@ -27,41 +27,45 @@ pub struct Hole {
     pub why: String,
 }
 
+/// Told how many bytes more were gone through.
+pub type Told<'a> = dyn Fn(u64) + 'a;
+
 /// Fills these bytes from a place on, and answers the holes, which are zeros: a piece that cannot be read is tried unit
-/// by unit. Tells how many bytes it has gone through after each piece. A file that ends too early is the one error.
-pub fn fill(
-    media: &dyn Media,
-    at: u64,
-    bytes: &mut [u8],
-    unit: u64,
-    told: &dyn Fn(u64),
-) -> Result<Vec<Hole>, io::Error> {
+/// by unit. A file that ends too early is the one error.
+pub fn fill(media: &dyn Media, at: u64, bytes: &mut [u8], unit: u64, told: &Told) -> io::Result<Vec<Hole>> {
     let mut holes = Vec::new();
     let end = at + bytes.len() as u64;
     for (start, next) in cuts(at, end, unit * (PIECE / unit).max(1)) {
         let piece = &mut bytes[(start - at) as usize..(next - at) as usize];
         match media.read(start, piece) {
+            Ok(()) => told(next - start),
             Err(error) if error.kind() == ErrorKind::UnexpectedEof => return Err(error),
-            Err(_) => fill_units(media, start, piece, unit, &mut holes)?,
-            Ok(()) => {}
+            Err(_) => fill_units(media, start, piece, unit, told, &mut holes)?,
         }
-        told(next - start);
     }
     Ok(holes)
 }
 
-/// Fills a piece unit by unit.
-fn fill_units(media: &dyn Media, at: u64, piece: &mut [u8], unit: u64, holes: &mut Vec<Hole>) -> Result<(), io::Error> {
+/// Fills a piece unit by unit, and adds those that cannot be read to the holes.
+fn fill_units(
+    media: &dyn Media,
+    at: u64,
+    piece: &mut [u8],
+    unit: u64,
+    told: &Told,
+    holes: &mut Vec<Hole>,
+) -> io::Result<()> {
     for (start, end) in cuts(at, at + piece.len() as u64, unit) {
         let bytes = &mut piece[(start - at) as usize..(end - at) as usize];
         match media.read(start, bytes) {
+            Ok(()) => {}
             Err(error) if error.kind() == ErrorKind::UnexpectedEof => return Err(error),
             Err(error) => {
                 bytes.fill(0);
                 add(holes, Hole { start, end, why: error.to_string() });
             }
-            Ok(()) => {}
         }
+        told(end - start);
     }
     Ok(())
 }
@@ -157,11 +161,16 @@ pub mod tests {
 
     #[test]
     fn every_byte_is_gone_through_once() {
-        let media = Failing { bytes: numbered(2_500_000), bad: vec![(5_000, 5_001)] };
+        let bad = (1_500_000, 1_500_001);
+        let media = Failing { bytes: numbered(2_500_000), bad: vec![bad] };
         let gone = std::cell::Cell::new(0);
         let mut read = vec![0; 2_400_000];
-        fill(&media, 100_000, &mut read, 1_032, &|bytes| gone.set(gone.get() + bytes)).unwrap();
-        assert_eq!((gone.get(), &read[..]), (2_400_000, &media.bytes[100_000..]));
+        let holes = fill(&media, 100_000, &mut read, 1_032, &|bytes| gone.set(gone.get() + bytes)).unwrap();
+        assert_eq!((gone.get(), holes.len()), (2_400_000, 1));
+        let (start, end) = (holes[0].start as usize, holes[0].end as usize);
+        assert_eq!((end - start, start % 1_032), (1_032, 0));
+        assert_eq!(read[..start - 100_000], media.bytes[100_000..start]);
+        assert_eq!(read[end - 100_000..], media.bytes[end..]);
     }
 
     #[test]

@@ -26,8 +26,8 @@ pub fn of_verdict(verdict: &Verdict, options: &Options, source: &Source) -> Stri
     add_unread(&mut object, &verdict.read);
     if let Some(meant) = &verdict.meant {
         add_numbers(&mut object, meant);
-        add_scope(&mut object, meant, &verdict.outcome);
     }
+    object.number_or_null("scope", verdict.meant.as_ref().map(|meant| scope(meant, &verdict.outcome)));
     match &verdict.outcome {
         Outcome::Sound { entries, blocks, free_pages, time, .. } => {
             object.text("verdict", "sound");
@@ -136,8 +136,8 @@ fn add_numbers(object: &mut Object, meant: &Meant) {
     }
 }
 
-/// Adds which tree the verdict is about: one of a file's, never the whole file.
-fn add_scope(object: &mut Object, meant: &Meant, outcome: &Outcome) {
+/// Which tree the verdict is about: one of a file's, never the whole file.
+fn scope(meant: &Meant, outcome: &Outcome) -> Object {
     let mut scope = Object::default();
     scope.text("tree", if meant.names.is_empty() { "main" } else { "bucket" });
     scope.byte_strings("path", &meant.names);
@@ -146,7 +146,7 @@ fn add_scope(object: &mut Object, meant: &Meant, outcome: &Outcome) {
     if let Outcome::Sound { buckets, .. } = outcome {
         scope.number("buckets_not_judged", buckets.count);
     }
-    object.number("scope", scope);
+    scope
 }
 
 /// A meta page: whether it can be used, why not, and what it says.

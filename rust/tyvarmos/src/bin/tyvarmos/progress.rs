@@ -1,7 +1,6 @@
 //! A line on a terminal that says what takes long and how far it is.
 
 use std::cell::Cell;
-use std::fs;
 use std::io::{self, IsTerminal, Write};
 use std::path::{Path, PathBuf};
 use std::sync::atomic::{AtomicU64, AtomicUsize, Ordering};
@@ -10,6 +9,7 @@ use std::sync::{Arc, Mutex, PoisonError};
 use std::thread::{self, JoinHandle};
 use std::time::{Duration, Instant};
 
+use crate::file;
 use crate::text;
 
 const BEAT: Duration = Duration::from_millis(500);
@@ -35,8 +35,7 @@ impl Progress {
     /// A line about the work on these files, if standard error is a terminal.
     pub fn start(files: &[PathBuf]) -> Progress {
         let terminal = io::stderr().is_terminal();
-        let length = |path: &PathBuf| fs::metadata(path).map_or(0, |metadata| metadata.len());
-        let bytes = if terminal { files.iter().map(length).sum() } else { 0 };
+        let bytes = if terminal { files.iter().map(|path| file::length(path)).sum() } else { 0 };
         let board = Arc::new(Board::new(files, bytes));
         let ticker = terminal.then(|| {
             let (end, ended) = mpsc::channel();
