@@ -62,7 +62,7 @@ fn check_beyond(file: &Temporary, words: &[&str], sentence: &str) {
         assert_eq!(done.status, 3, "{action:?}: {}{}", done.text(), done.err);
         let said = format!("{}{}", done.text(), done.err);
         assert!(said.contains("beyond the limits of this version") && said.contains(sentence), "{said}");
-        assert!(!said.contains("refused"), "{said}");
+        assert!(!said.contains("refused") && !said.contains("to go on"), "{said}");
         let json = json::parse(run_on(action[0], file, &[words.as_slice(), &["--json"]].concat()).text());
         assert_eq!(json["verdict"].text(), "beyond_limits");
         assert_eq!(json["sizes"]["limit"], Value::Bool(true));
@@ -106,6 +106,12 @@ fn a_short_file_says_how_many_pages_it_has() {
     let json = json::parse(run_on("judge", &file, &["--json"]).text());
     assert_eq!((json["to_go_on"].text(), json["sizes"]["whole_pages"].number()), (hint, Some(5)));
     assert_eq!(run_on("get", &file, &["ab", "--page-count", "5"]).text(), "ab".repeat(5));
-    let stub = Temporary::file("stub", &small::image()[..2_047]);
-    assert!(run_on("judge", &stub, &[]).text().contains("(1)\n"));
+    let mut bytes = small::image();
+    put_meta(&mut bytes, 1, 1_024, 50_000, 9);
+    let long = Temporary::file("long", &bytes);
+    File::options().write(true).open(&long.path).unwrap().set_len(40_000 * 1_024).unwrap();
+    let done = run_on("judge", &long, &[]);
+    assert_eq!(done.status, 2);
+    let hint = "the file has 40000 whole pages of 1024 bytes, and this version takes 32768";
+    assert!(done.text().contains(&format!("  to go on  {hint}\n")), "{}", done.text());
 }

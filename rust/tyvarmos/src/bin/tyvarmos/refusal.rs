@@ -14,6 +14,9 @@ use crate::metas::Metas;
 use crate::stop::{BEYOND, REFUSED, UNREADABLE};
 use crate::trace::{self, Trace};
 
+/// The pages that this version takes.
+const MOST_PAGES: u64 = 32_768;
+
 /// A refusal, as it is told.
 pub struct Refusal {
     pub kind: Kind,
@@ -57,13 +60,14 @@ impl Refusal {
             _ => (Kind::Broken, format!("{which}: {fault}")),
         };
         let to_go_on = match usable {
-            Some(meta) => format!("meta page {} can be used: leave --meta out", meta.meta_page),
+            _ if fault.is_limit() => None,
+            Some(meta) => Some(format!("meta page {} can be used: leave --meta out", meta.meta_page)),
             None => {
                 let says = metas.as_options().map_or(String::new(), |says| format!("; {says}"));
-                format!("give --page-size, --page-count, --root and --freelist{says}")
+                Some(format!("give --page-size, --page-count, --root and --freelist{says}"))
             }
         };
-        Refusal { kind, sentence, to_go_on: Some(to_go_on), fault: Some(fault), context: None }
+        Refusal { kind, sentence, to_go_on, fault: Some(fault), context: None }
     }
 
     /// The refusal by the judge of the tree that is meant.
@@ -126,14 +130,15 @@ impl Refusal {
     }
 }
 
-/// How many whole pages a short file has.
+/// How many whole pages a short file has, and what may be done with them.
 fn whole_pages(held: u64, page_size: u64) -> String {
-    match held / page_size {
-        whole @ (0 | 1) => format!("the file has {whole} whole pages of {page_size} bytes, and two are the least"),
-        whole => {
-            format!("the file has {whole} whole pages of {page_size} bytes: --page-count {whole} asks about these")
-        }
-    }
+    let whole = held / page_size;
+    let then = match whole {
+        0 | 1 => ", and two are the least".to_string(),
+        2..=MOST_PAGES => format!(": --page-count {whole} asks about these"),
+        _ => format!(", and this version takes {MOST_PAGES}"),
+    };
+    format!("the file has {whole} whole pages of {page_size} bytes{then}")
 }
 
 /// The pages of the blocks on a way that could not be read. Of the fault's own block those that its rule looks at.
