@@ -1,6 +1,6 @@
 // The judge: the walk of a tree, then the freelist page.
-pub mod freelist;
-pub mod range;
+mod freelist;
+mod range;
 
 ghost use mathlib.Core.Path.{_≡_};
 ghost use mathlib.Core.Bool.{false, cond, _||_};

@@ -1,5 +1,5 @@
 // The lookup of a key from a root.
-pub mod descent;
+mod descent;
 
 ghost use mathlib.Core.Path.{_≡_};
 ghost use Rattle.view.specs.Fault.{faultAt};

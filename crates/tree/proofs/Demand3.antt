@@ -177,6 +177,7 @@ module _ (image : List ℕ) (P N root f : ℕ) (passes : Passes image P N root f
       record {
         page = w .page;
         reached = record { level = w .level; top = w .top; way = w .way };
+        leads = w .leads;
         by16 = w .within;
         isALeaf = view-leaf image P N (w .page) (w .top) (w .entries) (w .isLeaf) .kind;
         found = λ v e. there (w .page) (w .entries) v (lookup N view 16 true root key) refl (w .answers) (sym (looks key) ∙ e);

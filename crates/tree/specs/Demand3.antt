@@ -7,20 +7,23 @@ use mathlib.Core.Logic.{_↔_}
 use Prim.Native.Nat.{ℕ, _≤_}
 use Rattle.page.specs.Layout.{isLeaf, valueOf}
 use Rattle.page.specs.PageRules.{blockOf}
-use Rattle.walk.specs.Tree.{Key}
+use Rattle.walk.specs.Tree.{Key, Leads}
 use Rattle.view.specs.declared.Fault.{Fault}
 use Rattle.view.specs.declared.Value.{Value}
 use Rattle.lookup.specs.declared.Looked.{Looked}
 use Rattle.lookup.specs.declared.Looked.the-variants.{Found, Absent, Refused}
+use Rattle.view.specs.View.{viewOf}
 use Rattle.lookup.specs.Lookup.{valueIn}
 use Rattle.tree.specs.Sound.{ReachedFrom}
 use Rattle.tree.specs.Outside.{SameWithin}
 use Rattle.tree.specs.Holds.{Holds, valueHeld}
 
--- an answer to a key comes from a leaf: it is reached from the root by level 16, and what the answer tells of the key, its entries tell
+-- an answer to a key comes from the leaf that the key leads to: from the root down, at each branch to the child for the key, it is reached by level 16, and what the
+-- answer tells of the key, its entries tell
 pub record ByLeaf (image : List ℕ) (P N root : ℕ) (key : Key) (answer : Looked) : Type 0 where
   pub page : ℕ
   pub reached : ReachedFrom image P N root page
+  pub leads : Leads (viewOf image P N) key root true (reached .level) page (reached .top)
   pub by16 : reached .level ≤ 16
   pub isALeaf : isLeaf (blockOf image P page) ≡ true
   pub found : (v : Value) → answer ≡ Found v → (i : ℕ) × Holds image P N root key page i × (v ≡ valueHeld image P page i)
@@ -31,7 +34,7 @@ pub record ByLeaf (image : List ℕ) (P N root : ℕ) (key : Key) (answer : Look
 pub record Demand3 {Lent : Type 0} (look : Lent → Key → Looked) (imageOf : Lent → List ℕ) (Same : Lent → Lent → Type 0) (P N root : ℕ) (lent : Lent) : Type 0 where
   -- no key is refused
   pub neverRefused : (key : Key) (x : Fault) → look lent key ≡ Refused x → ⊥
-  -- the answer comes from a leaf that is reached by level 16
+  -- the answer comes from the leaf that the key leads to, which is reached by level 16
   pub reachesALeaf : (key : Key) → ByLeaf (imageOf lent) P N root key (look lent key)
   -- found exactly when some leaf reached from the root holds the key, with that entry's kind, place and length
   pub foundIff : (key : Key) (v : Value)

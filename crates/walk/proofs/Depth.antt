@@ -1,4 +1,4 @@
--- A lookup in a tree whose walk passes comes to a leaf that is reached, within the walk's levels, and answers by that leaf's entries.
+-- In a tree whose walk passes a key leads to a leaf that is reached, within the walk's levels, and a lookup answers by that leaf's entries.
 -- Assumes what a page's own check has seen to, `Checked`.
 use Prim.Native.Nat.{ℕ, zero, suc, _≤_}
 use native.Mathlib.Omega.{arith}
@@ -7,7 +7,7 @@ use mathlib.Core.List.{List}
 use mathlib.Core.Bool.{Bool, false}
 use mathlib.Core.Option.{Option}
 use mathlib.Core.Logic.{⊎-elim}
-use Rattle.walk.specs.Tree.{Key, Item, View, branch, leaf, At, lookup, lookPage, seekFrom, Below, here, down, Checked}
+use Rattle.walk.specs.Tree.{Key, Item, View, branch, leaf, At, lookup, lookPage, childFor, seekFrom, Below, here, down, Leads, ends, goes, Checked}
 use Rattle.walk.proofs.Slots.{Slot}
 use Rattle.walk.proofs.Walked.{Walked, atLeaf, atBranch, WalkedAll, done, more}
 use Rattle.walk.proofs.Search.{lookup-at}
@@ -20,6 +20,7 @@ pub record Landed {P : Type 0} (N : ℕ) (view : ℕ → Bool → View P) (key :
   pub top : Bool
   pub entries : List (Item P)
   pub way : Below view p t level page top
+  pub leads : Leads view key p t level page top
   pub isLeaf : view page top ≡ leaf entries
   pub within : level ≤ d
   pub answers : lookup N view d t p key ≡ seekFrom entries key page 0
@@ -28,10 +29,11 @@ module _ {P : Type 0} (N : ℕ) (view : ℕ → Bool → View P) (checked : Chec
   step : (d : ℕ) (t : Bool) (p : ℕ) (cs : List (Item ℕ)) (i : ℕ) (c : Item ℕ)
       → view p t ≡ branch cs
       → At cs i c
+      → childFor cs key ≡ c .value
       → lookup N view (suc d) t p key ≡ lookup N view d false (c .value) key
       → Landed N view key d false (c .value)
       → Landed N view key (suc d) t p
-  step d t p cs i c f a e h =
+  step d t p cs i c f a k e h =
       let w = h .within in
       record {
         level = suc (h .level);
@@ -39,6 +41,7 @@ module _ {P : Type 0} (N : ℕ) (view : ℕ → Bool → View P) (checked : Chec
         top = h .top;
         entries = h .entries;
         way = down i c f a (h .way);
+        leads = goes {l = h .level} {q = h .page} {s = h .top} f (rw k (h .leads));
         isLeaf = h .isLeaf;
         within = omega arith;
         answers = e ∙ h .answers;
@@ -57,6 +60,7 @@ module _ {P : Type 0} (N : ℕ) (view : ℕ → Bool → View P) (checked : Chec
           top = t;
           entries = es;
           way = here;
+          leads = ends;
           isLeaf = f;
           within = omega arith;
           answers = lookup-at N view d t p key (leaf es) i f;
@@ -65,7 +69,7 @@ module _ {P : Type 0} (N : ℕ) (view : ℕ → Bool → View P) (checked : Chec
         ⊎-elim
         (λ e. absurd (checked .branches p t cs f .0 e))
         (λ x.
-        step d t p cs (x .0) (x .1) f (x .2)
+        step d t p cs (x .0) (x .1) f (x .2) (x .3)
         (lookup-at N view d t p key (branch cs) i f ∙ ap (λ (q : ℕ). lookup N view d false q key) (x .3))
         (landed-child (x .0) (x .1) w (x .2)))
         (child-at cs key)

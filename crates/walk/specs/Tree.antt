@@ -33,7 +33,7 @@ pub record Item (A : Type 0) : Type 0 where
   pub key : Key
   pub value : A
 
--- a page that is refused, with the rule and the element; a branch's separators, each with the page of its child; a leaf's entries
+-- a page that is refused, with the number and the element; a branch's separators, each with the page of its child; a leaf's entries
 pub data View (P : Type 0) : Type 0 where
   bad : ℕ → ℕ → View P
   branch : List (Item ℕ) → View P
@@ -75,7 +75,7 @@ abbrev pub inside : ℕ → ℕ → Bool
 inside N p = leb 2 p && ltb p N
 
 -- ---- the judge
--- the number of entries and the pages visited, or the rule that is broken, the page and the element
+-- how many entries and the pages visited, or a breach's number, page and element
 pub data Verdict : Type 0 where
   pass : ℕ → List ℕ → Verdict
   fault : ℕ → ℕ → ℕ → Verdict
@@ -89,7 +89,7 @@ unfoldable pub firstOut : Key → Option Key → List Key → ℕ → Option ℕ
 firstOut low high [] i = none
 firstOut low high (k ∷ ks) i = cond (inRange low high k) (firstOut low high ks (suc i)) (some i)
 
--- rule 7, and then the verdict
+-- rule 8, whose number is 7, and then the verdict
 abbrev pub unlessOut : Option ℕ → ℕ → Verdict → Verdict
 unlessOut none page v = v
 unlessOut (some i) page v = fault 7 page i
@@ -156,6 +156,14 @@ module _ {P : Type 0} (view : ℕ → Bool → View P) where
         → At cs i c
         → Below (c .value) false l q s
         → Below p t (suc l) q s
+
+  -- a key leads from page p, which is on level 1, to page q on this level: at each branch to the child for the key
+  pub data Leads (key : Key) : ℕ → Bool → ℕ → ℕ → Bool → Type 0 where
+    ends : {p : ℕ} {t : Bool} → Leads key p t 1 p t
+    goes : {p : ℕ} {t : Bool} {cs : List (Item ℕ)} {l q : ℕ} {s : Bool}
+        → view p t ≡ branch cs
+        → Leads key (childFor cs key) false l q s
+        → Leads key p t (suc l) q s
 
   -- page q is reached from page p
   pub record Reached (p : ℕ) (t : Bool) (q : ℕ) : Type 0 where

@@ -9,7 +9,7 @@ returns c =
     let p = c .before .before in
     let k = p .before .before .before .before .before in
     let e = sym (k .before .before .lookup .ensures) ∙ k .v .given .1 in
-    rw (e, sym (p .before .before .before .wide .ensures)) (p .give .ensures)
+    rw (e, sym (p .before .before .before .wide .ensures .0)) (p .give .ensures)
 
 returns-2 : tie.Need-returns-2
 returns-2 c =

@@ -73,10 +73,10 @@ fn rust_parameter(word: &str) -> Vec<(String, &'static str)> {
     vec![(name.to_string(), kind)]
 }
 
-/// The text of an exported Rattle function, up to the next one.
+/// The text of a Rattle function, up to the brace that closes it.
 pub fn body<'a>(text: &'a str, name: &str) -> &'a str {
     let start = text.find(&format!("fn {name}(")).unwrap();
-    text[start..].split("#[no_mangle]").next().unwrap()
+    text[start..].split("\n}").next().unwrap()
 }
 
 /// How many fields each answer has that a Rattle text writes.
