@@ -46,7 +46,10 @@ fn help_and_version_are_0() {
         let done = run(words);
         assert_eq!((done.status, done.err.as_str()), (0, ""), "{words:?}");
         let options = ["--bucket", "--bucket-hex", "--hex", "--page-size", "--page-count", "--root", "--freelist"];
-        for option in options.iter().chain(&["--json", "--version", "judges each page on the way"]) {
+        let others =
+            ["--meta", "--jobs", "--quiet", "--json", "--version", "--bucket=NAME", "judges each page on the way"];
+        let statuses = ["3 beyond the limits of this version", "Of many files the worst", "Help is not"];
+        for option in options.iter().chain(&others).chain(&statuses) {
             assert!(done.text().contains(option), "{option}");
         }
     }
