@@ -14,8 +14,8 @@ use crate::stop::Stop;
 
 /// Two pages of the greatest size: as much as the meta pages can take.
 const HEAD: u64 = 131_072;
-/// What is tried alone while the page size is not known.
-const SECTOR: u64 = 512;
+/// The least page, which is what is tried alone while the page size is not known.
+const LEAST_PAGE: u64 = 1_024;
 const OVERFLOW_AT: u64 = 24;
 
 /// An open file.
@@ -64,18 +64,12 @@ impl Source {
         Source::new(path, Box::new(file), length)
     }
 
-    /// So many bytes with the first of them read; a stop where none of these can be.
+    /// So many bytes with the first of them read, as far as they can be.
     pub fn new(path: &Path, media: Box<dyn Media>, length: u64) -> Result<Source, Stop> {
         let mut source = Source { path: path.to_path_buf(), media, length, head: Vec::new(), holes: Vec::new() };
         let mut head = source.room(HEAD.min(length))?;
-        source.holes = source.fill(0, &mut head, SECTOR, &|_| {})?;
-        match source.holes.first() {
-            Some(hole) if (hole.start, hole.end) == (0, head.len() as u64) => {
-                let (end, why) = (hole.end, &hole.why);
-                return Err(Stop::unreadable(path, &format!("bytes 0 to {} cannot be read: {why}", end - 1)));
-            }
-            _ => source.head = head,
-        }
+        source.holes = source.fill(0, &mut head, LEAST_PAGE, &|_| {})?;
+        source.head = head;
         Ok(source)
     }
 

@@ -141,7 +141,7 @@ mod tests {
             let (verdict, said) = verdict(&[sector(10), sector(page), sector(140)], &[]);
             assert_eq!(verdict.status(), UNREADABLE);
             assert!(said.starts_with("dying: main tree not judged\n"), "{said}");
-            let why = format!("from byte {} on: Input/output error (os error 5)", page * PAGE + 512);
+            let why = format!("from byte {} on: Input/output error (os error 5)", page * PAGE);
             assert!(said.contains(&format!("  page {page} is needed and could not be read, {why}\n")), "{said}");
             assert!(!said.contains("refused") && !said.contains("(3)"), "{said}");
         }
@@ -190,10 +190,14 @@ mod tests {
     }
 
     #[test]
-    fn a_file_of_which_nothing_can_be_read_is_a_stop() {
-        let media = Failing { bytes: EXAMPLE.to_vec(), bad: vec![(0, u64::MAX)] };
-        let stop = Source::new(Path::new("dead"), Box::new(media), EXAMPLE.len() as u64).err().unwrap();
-        let Stop::Unreadable { why, .. } = stop else { panic!("{stop:?}") };
-        assert_eq!(why, "bytes 0 to 131071 cannot be read: Input/output error (os error 5)");
+    fn behind_a_dead_beginning_a_tree_that_is_named_is_judged() {
+        let dead = (0, 64 * PAGE);
+        let (lost, said) = verdict(&[dead], &[]);
+        assert_eq!(lost.status(), UNREADABLE);
+        assert!(said.contains("could not be read: from byte 0 on: Input/output error (os error 5)\n"), "{said}");
+        assert!(said.contains("  to go on  give --page-size, --page-count, --root and --freelist\n"), "{said}");
+        let (judged, said) = verdict(&[dead], &["--page-size=1024", "--page-count=146", "--root=65", "--freelist=66"]);
+        assert_eq!(judged.status(), 0);
+        assert!(said.contains("64 pages could not be read: 0 to 63; the tree needs none of them\n"), "{said}");
     }
 }

@@ -90,7 +90,7 @@ pub fn of_stat(verdict: &Verdict, options: &Options, source: &Source) -> String 
     text
 }
 
-/// What `get` says of a refusal, below its sentence.
+/// What stands below the sentence of a refusal.
 pub fn below(refusal: &Refusal, meant: Option<&Meant>) -> String {
     let page = refusal.fault.and_then(|fault| fault.page);
     let context = match (&refusal.context, meant, page) {
