@@ -70,10 +70,15 @@ impl Refusal {
         Refusal { kind, sentence, to_go_on, fault: Some(fault), context: None }
     }
 
-    /// The refusal by the judge of the tree that is meant.
+    /// The refusal by the judge of the tree that is meant. Where a page could not be read, all such pages of the tree are
+    /// named, those behind the first too, where nothing is judged.
     pub fn judged(meant: &Meant, source: &Source, read: &Read, fault: Fault) -> Refusal {
         let image = meant.image(&read.bytes);
-        Refusal::traced(meant, source, read, fault, trace::judged(&image, Some(&fault)))
+        let refusal = Refusal::traced(meant, source, read, fault, trace::judged(&image, Some(&fault)));
+        match refusal.kind {
+            Kind::Unread(_) => Refusal::of_passed(&image, read, None).unwrap_or(refusal),
+            _ => refusal,
+        }
     }
 
     /// The refusal by a lookup in the tree that is meant.
@@ -118,8 +123,8 @@ impl Refusal {
         Refusal { kind: Kind::Unread(needed), sentence, to_go_on: None, fault: None, context: None }
     }
 
-    /// The refusal where the judge passed a tree of which pages could not be read, or a lookup came through them: their
-    /// zeros may stand for anything.
+    /// The refusal where pages of a tree, or on the way to a key, could not be read though no rule is broken: their zeros
+    /// may stand for anything.
     pub fn of_passed(image: &Image, read: &Read, key: Option<&[u8]>) -> Option<Refusal> {
         if read.unread.is_empty() {
             return None;

@@ -162,6 +162,14 @@ mod tests {
     }
 
     #[test]
+    fn all_pages_of_the_tree_that_are_lost_are_named() {
+        let (verdict, said) = verdict(&[sector(10), sector(45), sector(106), sector(113)], &["--bucket=characters"]);
+        assert_eq!(verdict.status(), UNREADABLE);
+        assert!(said.contains("  pages 45, 106, 113 are needed and could not be read, from byte 46080 on: "), "{said}");
+        assert!(said.contains("  warning   4 pages could not be read: 10, 45, 106, 113\n"), "{said}");
+    }
+
+    #[test]
     fn a_bucket_behind_a_bad_page_is_not_called_absent() {
         let (verdict, said) = verdict(&[sector(65)], &["--bucket", "nowhere"]);
         assert_eq!(verdict.status(), UNREADABLE);
