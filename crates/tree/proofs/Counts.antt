@@ -12,7 +12,7 @@ use lib.Dec.{eqb}
 use lib.ListN.{length}
 use Rattle.walk.specs.Tree.{memb, Distinct}
 use Rattle.walk.proofs.Count.{no-longer}
-use Rattle.walk.proofs.Theorems.{Listing}
+use Rattle.walk.specs.Listing.{Listing}
 use Rattle.walk.proofs.Theorems as tree
 use Rattle.judge.specs.declared.Judged.the-variants.{Sound}
 use Rattle.view.specs.View.{viewOf}

@@ -11,7 +11,8 @@ use lib.ListN.{length}
 use borrow.Author.Tests.{eqb-true}
 use Rattle.walk.specs.Tree.{lower, memb, Distinct}
 use Rattle.walk.proofs.KeyLaws.{lower-not, lower-chain}
-use Rattle.walk.proofs.Slots.{Mem, every-mem, Slot, keyAt, Sorted}
+use Rattle.walk.specs.Listing.{Mem, Slot, keyAt, Sorted}
+use Rattle.walk.proofs.Slots.{every-mem}
 use Rattle.walk.proofs.Reach.{memb-head, memb-tail, memb-cases}
 
 -- ---- pages

@@ -8,7 +8,7 @@ use mathlib.Core.Bool.{Bool, false}
 use mathlib.Core.Option.{Option}
 use mathlib.Core.Logic.{⊎-elim}
 use Rattle.walk.specs.Tree.{Key, Item, View, branch, leaf, At, lookup, lookPage, childFor, seekFrom, Below, here, down, Leads, ends, goes, Checked}
-use Rattle.walk.proofs.Slots.{Slot}
+use Rattle.walk.specs.Listing.{Slot}
 use Rattle.walk.proofs.Walked.{Walked, atLeaf, atBranch, WalkedAll, done, more}
 use Rattle.walk.proofs.Search.{lookup-at}
 use Rattle.walk.proofs.Frame.{child-at}

@@ -10,7 +10,8 @@ use mathlib.Core.Logic.{_⊎_, inl, inr, ⊎-elim}
 use lib.Dec.{eqb}
 use borrow.Author.Tests.{eqb-true, eq-eqb}
 use Rattle.walk.specs.Tree.{Key, Item, View, branch, leaf, At, memb, Distinct, Below, here, down, Reached, LeafEntry}
-use Rattle.walk.proofs.Slots.{Mem, mem-left, mem-right, mem-either, Slot, slots, slot-at, at-slot}
+use Rattle.walk.specs.Listing.{Mem, Slot}
+use Rattle.walk.proofs.Slots.{mem-left, mem-right, mem-either, slots, slot-at, at-slot}
 use Rattle.walk.proofs.Walked.{Walked, WalkedAll, atLeaf, atBranch, done, more}
 
 -- ---- membership of a page

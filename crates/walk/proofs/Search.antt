@@ -8,7 +8,8 @@ use mathlib.Core.Bool.{Bool, true, false, cond}
 use mathlib.Core.Option.{Option, none, some}
 use Rattle.walk.specs.Tree.{Every, Key, lower, same, under, inRange, Item, View, branch, leaf, keys, Rising, inside, firstOut, next, Answer, childFor, lookPage, lookup, Checked}
 use Rattle.walk.proofs.KeyLaws.{range-low, range-high, range-both, weak-chain, high-chain, under-chain, under-next, under-open, under-past, under-some, rising-tail, lower-not-same, higher-not-same}
-use Rattle.walk.proofs.Slots.{every-map, every-append, Slot, keyAt, slots, seek, Sorted, seek-slots, seek-past, seek-within, slots-sorted, sorted-append}
+use Rattle.walk.specs.Listing.{Slot, keyAt, Sorted}
+use Rattle.walk.proofs.Slots.{every-map, every-append, slots, seek, seek-slots, seek-past, seek-within, slots-sorted, sorted-append}
 use Rattle.walk.proofs.Walked.{Walked, WalkedAll, atLeaf, atBranch, done, more}
 
 -- ---- no key out of range

@@ -1,4 +1,4 @@
--- Lists of slots, a slot being an entry with its page and its index there: what holds of each, membership, the order by keys, and a search from the front.
+-- Lists of slots: what holds of each, membership, the order by keys, and a search from the front.
 -- Assumes nothing.
 use Prim.Native.Nat.{ℕ, zero, suc, _+_}
 use native.Mathlib.Omega.{arith}
@@ -8,14 +8,11 @@ use mathlib.Core.Bool.{Bool, true, false, cond}
 use mathlib.Core.Logic.{_⊎_, inl, inr, ⊎-elim}
 use lib.ListN.{length}
 use Rattle.walk.specs.Tree.{Every, Key, lower, same, Item, keys, At, Rising, Answer, found, absent, seekFrom}
+use Rattle.walk.specs.Listing.{Mem, Slot, keyAt, Sorted}
 use Rattle.walk.proofs.KeyLaws.{lower-chain, lower-not, same-self, same-eq, rising-tail}
 
 -- ---- any list
 module _ {A : Type 0} where
-  abbrev pub Mem : A → List A → Type 0
-  Mem x [] = ⊥
-  Mem x (y ∷ ys) = (x ≡ y) ⊎ Mem x ys
-
   pub every-map : (Q R : A → Type 0) → ((x : A) → Q x → R x) → (xs : List A) → Every Q xs → Every R xs
   every-map Q R f [] h = tt
   every-map Q R f (x ∷ xs) h = (f x (h .0), every-map Q R f xs (h .1))
@@ -44,15 +41,7 @@ module _ {A : Type 0} where
   mem-either x (y ∷ xs) ys (inr m) = ⊎-elim (λ k. inl (inr k)) (λ k. inr k) (mem-either x xs ys m)
 
 -- ---- slots
-pub record Slot (P : Type 0) : Type 0 where
-  pub page : ℕ
-  pub index : ℕ
-  pub entry : Item P
-
 module _ {P : Type 0} where
-  abbrev pub keyAt : Slot P → Key
-  keyAt s = s .entry .key
-
   -- the slots of a leaf's entries, from index i on
   unfoldable pub slots : ℕ → ℕ → List (Item P) → List (Slot P)
   slots p i [] = []
@@ -62,11 +51,6 @@ module _ {P : Type 0} where
   unfoldable pub seek : List (Slot P) → Key → Answer P
   seek [] key = absent
   seek (s ∷ L) key = cond (same (keyAt s) key) (found (s .entry) (s .page) (s .index)) (seek L key)
-
-  -- each key is below all that follow
-  abbrev pub Sorted : List (Slot P) → Type 0
-  Sorted [] = Unit
-  Sorted (s ∷ L) = Every (λ u. lower (keyAt s) (keyAt u) ≡ true) L × Sorted L
 
   pub length-slots : (p i : ℕ) (es : List (Item P)) → length (slots p i es) ≡ length es
   unfolding slots

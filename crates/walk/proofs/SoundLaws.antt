@@ -12,7 +12,7 @@ use lib.ListN.{length}
 use borrow.Author.Tests.{leb-true, ltb-true, le-leb, lt-ltb}
 use Rattle.walk.specs.Tree.{Every, Key, inRange, Item, View, bad, branch, leaf, keys, At, memb, inside, pass, firstOut, next, walkAll, walkPage, walk, Below, here, down}
 use Rattle.walk.proofs.KeyLaws.{and-left, and-right}
-use Rattle.walk.proofs.Slots.{Slot}
+use Rattle.walk.specs.Listing.{Slot}
 use Rattle.walk.proofs.Walked.{Walked, WalkedAll, atLeaf, atBranch, done, more, walked}
 use Rattle.walk.proofs.Search.{all-in}
 use Rattle.walk.proofs.Reach.{memb-head, memb-tail, memb-cases, at-leaf, at-branch, kept, visited, only}

@@ -9,20 +9,14 @@ use mathlib.Core.Option.{none}
 use mathlib.Core.Logic.{_↔_, ⊎-elim}
 use lib.ListN.{length}
 use Rattle.walk.specs.Tree.{Key, Item, View, memb, Distinct, pass, walk, Answer, refused, found, absent, lookup, Reached, LeafEntry, Checked}
-use Rattle.walk.proofs.Slots.{Mem, Slot, seek, Sorted, Sought, hit, miss, sought, sorted-one}
+use Rattle.walk.specs.Listing.{Slot, Listing}
+use Rattle.walk.proofs.Slots.{seek, Sought, hit, miss, sought, sorted-one}
 use Rattle.walk.proofs.Walked.{Walked, walked}
 use Rattle.walk.proofs.Search.{sorted, searched}
 use Rattle.walk.proofs.Count.{no-longer, sorted-unique}
 use Rattle.walk.proofs.Depth.{Landed, landed}
 use Rattle.walk.proofs.Frame.{lookup-frame, walk-frame}
 use Rattle.walk.proofs.Reach.{entered, listed, visited, only, distinct}
-
--- all leaf entries that are reached, in the order of their keys, each once
-pub record Listing {P : Type 0} (view : ℕ → Bool → View P) (root n : ℕ) : Type 0 where
-  pub all : List (Slot P)
-  pub counted : n ≡ length all
-  pub rising : Sorted all
-  pub exact : (s : Slot P) → Mem s all ↔ LeafEntry view root true (s .page) (s .index) (s .entry)
 
 module _ {P : Type 0}
     (N : ℕ)

@@ -8,7 +8,8 @@ use mathlib.Core.Bool.{Bool, true, false, cond}
 use mathlib.Core.Option.{Option, none, some}
 use lib.ListN.{length, length-append}
 use Rattle.walk.specs.Tree.{Key, Item, View, bad, branch, leaf, keys, memb, inside, Verdict, pass, fault, ifPassed, firstOut, unlessOut, next, walkAll, walkPage, walk}
-use Rattle.walk.proofs.Slots.{Slot, slots, length-slots}
+use Rattle.walk.specs.Listing.{Slot}
+use Rattle.walk.proofs.Slots.{slots, length-slots}
 
 module _ {P : Type 0} (N : ℕ) (view : ℕ → Bool → View P) where
   mutual
