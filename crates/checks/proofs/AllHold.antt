@@ -11,7 +11,7 @@ use Rattle.page.specs.Layout.{keyOf}
 use Rattle.page.specs.PageRules.{firstBad, tableBad, elementBad, keyBad, checkOf, lentCheckOf}
 use Rattle.page.specs.Search.{scanFrom, placeOf, indexOf}
 use Rattle.pack.specs.Pack.{nodeSize, header, element, table, bodies, pack}
-use Rattle.split.specs.Split.{cutsFrom, cutsOf, piecesFrom}
+use Rattle.cuts.specs.Split.{cutsFrom, cutsOf, piecesFrom}
 use Rattle.freelist.specs.Table.{bit, stateOf}
 use Rattle.freelist.specs.Pages.{pagesFrom, all, first}
 use Rattle.freelist.specs.declared.Allocated.the-variants.{At, Refused}

@@ -11,7 +11,7 @@ use Rattle.page.specs.Search.{indexOf}
 use Rattle.page.specs.Numbers.{indexedFields}
 use Rattle.pack.specs.Pack.{nodeSize, pack}
 use Rattle.pack.specs.Plan.{entryWith}
-use Rattle.split.specs.Split.{piecesOf}
+use Rattle.cuts.specs.Split.{piecesOf}
 use Rattle.freelist.specs.Answers.{allocatedFields}
 use Rattle.freelist.specs.Freelist.{newTable, allocateAnswer}
 

@@ -1,7 +1,7 @@
 // Edits of branches, each answer printed, and a hash of the output's bytes after each.
 use super::show::edited;
 use super::show::holds;
-use node::branch::insert_branch;
+use branch::insert_branch;
 
 // Prints what an insert in a branch answers.
 fn insert(b: &[u8], p: usize, has: bool, original: &[u8], key: &[u8], child: u64, out: &mut [u8]) {

@@ -9,7 +9,8 @@ use super::show::measured;
 use super::show::merging;
 use super::show::parted;
 use super::show::written;
-use node::branch::insert_branch;
+use branch::insert_branch;
+use cuts::split;
 use node::edit::delete;
 use node::edit::insert_data;
 use node::edit::new_branch;
@@ -19,8 +20,7 @@ use node::measure::size;
 use page::search::entry;
 use page::search::index;
 use page::search::index_page;
-use split::cuts::split;
-use split::write::split_write;
+use split::split_write;
 
 // Prints what inserting x answers.
 fn insert_x(b: &[u8], p: usize, kind: u8, value: &[u8], out: &mut [u8]) {

@@ -1,4 +1,5 @@
 // Prints answers, one to a line.
+use cuts::Parted;
 use field::number::byte_at;
 use meta::fnv::fnv1a;
 use node::Deleted;
@@ -9,7 +10,6 @@ use page::Child;
 use page::Held;
 use page::Indexed;
 use page::Leaf;
-use split::Parted;
 use split::Written;
 
 // Ends the line.

@@ -3,10 +3,10 @@ use super::show::holds;
 use super::show::list;
 use super::show::parted;
 use super::show::written;
+use cuts::split;
 use node::edit::insert_data;
 use node::edit::new_leaf;
-use split::cuts::split;
-use split::write::split_write;
+use split::split_write;
 
 // 01's leaf of 1,024 bytes: five entries with payloads 164, 165, 165, 165, 165.
 fn five() -> [u8; 1024] {

@@ -3,7 +3,5 @@ pub mod NodeLaws
 pub mod ResultLaws
 pub mod EditLaws
 pub mod InsertLaws
-pub mod BranchLaws
 pub mod OutcomeLaws
 pub mod Theorems
-pub mod BranchTheorems

@@ -1,9 +1,8 @@
 // Nodes: the size of a lent block, and edits that read one lent block and write another.
-pub mod branch;
 pub mod edit;
 pub mod measure;
-mod place;
-mod result;
+pub mod place;
+pub mod result;
 
 pub use edit::Deleted;
 pub use edit::Edited;

@@ -2,11 +2,12 @@
 -- Assumes nothing.
 use mathlib.Core.Path.{_≡_, refl}
 use lib.ListN.{length}
-use Rattle.split.specs.declared.cuts.Parted.{Parted}
-use Rattle.split.specs.declared.cuts.Parted.the-variants as parted
-use Rattle.split.specs.declared.write.Written.{Written}
-use Rattle.split.specs.declared.write.Written.the-variants as written
-use Rattle.split.specs.Numbers.{partedFields, writtenFields}
+use Rattle.cuts.specs.declared.Parted.{Parted}
+use Rattle.cuts.specs.declared.Parted.the-variants as parted
+use Rattle.split.specs.declared.Written.{Written}
+use Rattle.split.specs.declared.Written.the-variants as written
+use Rattle.cuts.specs.Numbers.{partedFields}
+use Rattle.split.specs.Numbers.{writtenFields}
 
 pub parted-count : (r : Parted) → length (partedFields r) ≡ 4
 parted-count (parted.Cuts made) = refl

@@ -3,14 +3,15 @@ ghost use mathlib.Core.Path.{_≡_};
 ghost use lib.ListN.{length};
 ghost use Rattle.answer.specs.Answer.{toldNumber, toldAnswer, lentWith};
 ghost use Rattle.page.specs.Layout.{isLeaf};
-ghost use Rattle.split.specs.Numbers.{partedFields, writtenFields};
-ghost use Rattle.split.specs.Parted.{splitOf, blockCuts, listLeft};
+ghost use Rattle.cuts.specs.Numbers.{partedFields};
+ghost use Rattle.split.specs.Numbers.{writtenFields};
+ghost use Rattle.cuts.specs.Parted.{splitOf, blockCuts, listLeft};
 ghost use Rattle.split.specs.Write.{splitWriteOf, packAll, blockPieces, outLeft};
 use answer::give;
-use split::Parted;
+use cuts::Parted;
+use cuts::split;
 use split::Written;
-use split::cuts::split;
-use split::write::split_write;
+use split::split_write;
 
 // How many fields the answer of `split` has, and that of `split_write`.
 const PARTED_FIELDS: usize = 3;

@@ -11,13 +11,13 @@ ghost use Rattle.node.specs.Edit.{output, newLeafOf, newBranchOf, insertOf, del
 ghost use Rattle.node.specs.Edit.{answer as editedOf};
 ghost use Rattle.probe.specs.Probe.{DeletedOrdered};
 use answer::give;
+use branch::insert_branch;
 use field::number::flag;
 use field::number::wide;
 use node::Deleted;
 use node::Edited;
 use node::Measure;
 use node::Merging;
-use node::branch::insert_branch;
 use node::edit::delete;
 use node::edit::insert_data;
 use node::edit::new_branch;

@@ -1,8 +1,4 @@
--- The laws of the split, for every layer above.
-pub mod Halved
-pub mod RunLaws
-pub mod PartedLaws
-pub mod PieceLaws
+-- The laws of the pieces written, for every layer above.
 pub mod PartLaws
 pub mod WriteLaws
 pub mod PagesLaws

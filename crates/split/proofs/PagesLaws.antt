@@ -16,13 +16,13 @@ use Rattle.pack.specs.Pack.{blockSize, pack}
 use Rattle.pack.specs.Plan.{range}
 use Rattle.pack.proofs.RangeLaws.{range-part}
 use Rattle.pack.proofs.PackLaws.{length-pack}
-use Rattle.split.specs.Split.{threshold, cutsOf, piecesFrom, piecesOf}
-use Rattle.split.specs.Run.{cutsAfter, firstCut, endOr, pieceEnd, piecesAfter, runEnd}
+use Rattle.cuts.specs.Split.{threshold, cutsOf, piecesFrom, piecesOf}
+use Rattle.cuts.specs.Run.{cutsAfter, firstCut, endOr, pieceEnd, piecesAfter, runEnd}
 use Rattle.field.specs.Sizes.{blockInside}
 use Rattle.split.specs.Write.{spanOf, spansOf, apart, clearOf, placed, bytesIn, packAll, cappedSpans}
-use Rattle.split.proofs.RunLaws.{none-after, next-after, end-within}
-use Rattle.split.proofs.PartedLaws.{cuts-code}
-use Rattle.split.proofs.PieceLaws.{length-pieces}
+use Rattle.cuts.proofs.RunLaws.{none-after, next-after, end-within}
+use Rattle.cuts.proofs.PartedLaws.{cuts-code}
+use Rattle.cuts.proofs.PieceLaws.{length-pieces}
 use Rattle.split.proofs.WriteLaws.{inside-end}
 
 -- ---- pieces

@@ -21,11 +21,11 @@ use Rattle.pack.proofs.RangeLaws.{range-part}
 use Rattle.pack.proofs.PackLaws.{covers}
 use Rattle.pack.proofs.Decode.{id-packed, decode}
 use Rattle.pack.proofs.PackedSound.{each-map, good-storable, good-from, rising-from, lent-packed, leaf-packed}
-use Rattle.split.specs.declared.write.Written.the-variants.{Pieces}
+use Rattle.split.specs.declared.Written.the-variants.{Pieces}
 use Rattle.split.specs.Write.{spanOf, spansOf, bytesIn, packAll, blockPieces, splitWriteOf, outLeft}
-use Rattle.split.proofs.Halved.{size-range}
-use Rattle.split.proofs.PartedLaws.{lent-size}
-use Rattle.split.proofs.PieceLaws.{Part, piece-part}
+use Rattle.cuts.proofs.Halved.{size-range}
+use Rattle.cuts.proofs.PartedLaws.{lent-size}
+use Rattle.cuts.proofs.PieceLaws.{Part, piece-part}
 use Rattle.split.proofs.WriteLaws.{inside-end, bytes-small}
 use Rattle.split.proofs.PagesLaws.{placed-at, packed-at}
 use Rattle.split.proofs.WrittenLaws.{count-most, Passed, passed}

@@ -16,9 +16,9 @@ use Rattle.page.proofs.TestLaws.{leb-same, and-both}
 use Rattle.field.specs.Sizes.{pagesNeeded, blockInside}
 use Rattle.pack.specs.Pack.{blockSize, pack}
 use Rattle.pack.specs.Plan.{range}
-use Rattle.split.specs.Run.{cutsAfter, firstCut, endOr, pieceEnd, piecesAfter}
+use Rattle.cuts.specs.Run.{cutsAfter, firstCut, endOr, pieceEnd, piecesAfter}
 use Rattle.split.specs.Write.{spanOf, spansOf, apart, clearOf, placed, bytesIn, packAll, cappedSpans}
-use Rattle.split.proofs.RunLaws.{run-done, next-after}
+use Rattle.cuts.proofs.RunLaws.{run-done, next-after}
 
 -- ---- a test that decides, and one that leaves it to the next
 and-false : (x y : Bool) → x ≡ false → (x && y) ≡ false

@@ -16,8 +16,8 @@ use Rattle.page.specs.Layout.{Entry, isLeaf, entriesOf}
 use Rattle.page.specs.PageRules.{lentCheckOf, afterCheck}
 use Rattle.page.proofs.TestLaws.{and-both}
 use Rattle.pack.specs.Pack.{nodeSize}
-use Rattle.split.specs.declared.write.Written.{Written}
-use Rattle.split.specs.declared.write.Written.the-variants.{Pieces, Refused}
+use Rattle.split.specs.declared.Written.{Written}
+use Rattle.split.specs.declared.Written.the-variants.{Pieces, Refused}
 use Rattle.size.specs.Size.{nodeLimit}
 use Rattle.split.specs.Write.{spansOf, placed, listGood, bytesIn, cappedSpans, writtenIf, writtenOf, blockPieces, splitWriteOf}
 use Rattle.split.proofs.PagesLaws.{length-spans, placed-counted, counted-exact}

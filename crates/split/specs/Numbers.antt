@@ -2,15 +2,8 @@
 -- Assumes nothing.
 use mathlib.Core.List.{List, [], _∷_}
 use Prim.Native.Nat.{ℕ}
-use Rattle.split.specs.declared.cuts.Parted.{Parted}
-use Rattle.split.specs.declared.cuts.Parted.the-variants as parted
-use Rattle.split.specs.declared.write.Written.{Written}
-use Rattle.split.specs.declared.write.Written.the-variants as written
-
--- `split`: number, cuts made, page, element
-abbrev pub partedFields : Parted → List ℕ
-partedFields (parted.Cuts made) = 0 ∷ made ∷ 0 ∷ 0 ∷ []
-partedFields (parted.Refused number element) = number ∷ 0 ∷ 0 ∷ element ∷ []
+use Rattle.split.specs.declared.Written.{Written}
+use Rattle.split.specs.declared.Written.the-variants as written
 
 -- `split_write`: number, bytes written, pieces, page, element
 abbrev pub writtenFields : Written → List ℕ

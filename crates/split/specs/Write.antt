@@ -10,9 +10,9 @@ use Rattle.page.specs.Layout.{Entry, isLeaf, entriesOf}
 use Rattle.page.specs.PageRules.{afterCheck, lentCheckOf}
 use Rattle.pack.specs.Pack.{nodeSize, pack}
 use Rattle.size.specs.Size.{nodeLimit}
-use Rattle.split.specs.declared.write.Written.{Written}
-use Rattle.split.specs.declared.write.Written.the-variants.{Pieces, Refused}
-use Rattle.split.specs.Split.{piecesOf}
+use Rattle.split.specs.declared.Written.{Written}
+use Rattle.split.specs.declared.Written.the-variants.{Pieces, Refused}
+use Rattle.cuts.specs.Split.{piecesOf}
 
 -- how many pages a piece's block takes
 abbrev pub spanOf : Bool → ℕ → List Entry → ℕ

@@ -3,8 +3,8 @@ use borrow.Author.Needs.{needs}
 use native.Mathlib.Omega.{arith}
 use denote.Ref.{now}
 use lib.ListN.{length}
-use Rattle.split.specs.Parted.{splitOf, blockCuts, listLeft}
-use Rattle.split.specs.Numbers.{partedFields}
+use Rattle.cuts.specs.Parted.{splitOf, blockCuts, listLeft}
+use Rattle.cuts.specs.Numbers.{partedFields}
 use Rattle.probe.proofs.ToldLaws.{told-short, told-roomy}
 use Rattle.probe.proofs.SplitLaws.{parted-count}
 use Rattle.probe.proofs.cuts.tyvarmos_split.Statement.{statement}

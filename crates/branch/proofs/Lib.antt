@@ -1,0 +1,3 @@
+-- The laws and theorems of the insertion in a branch.
+pub mod BranchLaws
+pub mod BranchTheorems
