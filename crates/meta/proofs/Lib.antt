@@ -1,7 +1,5 @@
--- The laws of the definitions, what reading finds of what was written, and what the newest meta is.
+-- The laws of the definitions, and what reading finds of what was written.
 mod Product
 mod HashLaws
 mod MetaLaws
-mod SizeLaws
 pub mod ReadBack
-pub mod NewestLaws

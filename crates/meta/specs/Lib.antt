@@ -1,4 +1,3 @@
 -- What the contracts of `meta` cite.
 pub mod Fnv
 pub mod Meta
-pub mod Newest

@@ -1,6 +1,5 @@
 // The meta of a page (meta.rs): hashed, read and written.
 pub mod fnv;
-pub mod newest;
 
 ghost use mathlib.Core.Path.{_≡_};
 ghost use Prim.Native.Nat.{_≤_};

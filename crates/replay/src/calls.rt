@@ -10,8 +10,6 @@ use super::record::count;
 use super::record::part;
 use super::record::room;
 use field::run::copy;
-use probe::cuts::tyvarmos_split;
-use probe::cuts::tyvarmos_split_write;
 use probe::edits::tyvarmos_delete;
 use probe::edits::tyvarmos_insert;
 use probe::edits::tyvarmos_insert_branch;
@@ -30,6 +28,8 @@ use probe::metas::tyvarmos_meta_read;
 use probe::metas::tyvarmos_meta_write;
 use probe::search::tyvarmos_index;
 use probe::search::tyvarmos_index_page;
+use probe::splits::tyvarmos_split;
+use probe::splits::tyvarmos_split_write;
 use shard::tyvarmos_judge;
 use shard::tyvarmos_lookup;
 

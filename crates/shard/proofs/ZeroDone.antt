@@ -6,10 +6,10 @@ use mathlib.Core.List.{List}
 use Prim.Native.Nat.{ℕ}
 use native.Mathlib.Omega.{arith}
 use Rattle.answer.specs.Answer.{tooShort, numberWith, toldNumber}
-use Rattle.meta.specs.Newest.{newestOf, newestFields}
-use Rattle.meta.specs.declared.newest.Newest.{Newest}
-use Rattle.meta.specs.declared.newest.Newest.the-variants as newest
-use Rattle.meta.proofs.NewestLaws.{newest-numbered}
+use Rattle.newest.specs.Newest.{newestOf, newestFields}
+use Rattle.newest.specs.declared.Newest.{Newest}
+use Rattle.newest.specs.declared.Newest.the-variants as newest
+use Rattle.newest.proofs.NewestLaws.{newest-numbered}
 use Rattle.walk.specs.Tree.{Key}
 use Rattle.view.specs.declared.Fault.{Fault}
 use Rattle.lookup.specs.declared.Looked.{Looked}

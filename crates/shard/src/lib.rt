@@ -2,7 +2,7 @@
 ghost use mathlib.Core.Path.{_≡_};
 ghost use Rattle.lookup.specs.Lookup.{lookupOf};
 ghost use Rattle.judge.specs.Judge.{judgeOf};
-ghost use Rattle.meta.specs.Newest.{newestOf, newestFields};
+ghost use Rattle.newest.specs.Newest.{newestOf, newestFields};
 ghost use Rattle.answer.specs.Answer.{toldNumber, toldAnswer};
 ghost use Rattle.shard.specs.Answer.{lookedFields, judgedFields};
 use answer::give;
@@ -11,8 +11,8 @@ use judge::Judged;
 use judge::judge;
 use lookup::Looked;
 use lookup::lookup;
-use meta::newest::Newest;
-use meta::newest::newest_meta;
+use newest::Newest;
+use newest::newest_meta;
 
 // The number of a lookup's answer, whose fields stand in `answer`: found, kind, place, length, page, element.
 #[no_mangle]

@@ -6,7 +6,7 @@ const PAPER: &str = include_str!("../../../../docs/PROBE.md");
 const SOURCES: [&str; 5] = [
     include_str!("../../../../crates/probe/src/search.rt"),
     include_str!("../../../../crates/probe/src/edits.rt"),
-    include_str!("../../../../crates/probe/src/cuts.rt"),
+    include_str!("../../../../crates/probe/src/splits.rt"),
     include_str!("../../../../crates/probe/src/free.rt"),
     include_str!("../../../../crates/probe/src/metas.rt"),
 ];

@@ -1,0 +1,3 @@
+-- What the newest meta is, and how a page size is found.
+pub mod SizeLaws
+pub mod NewestLaws

@@ -1,0 +1,2 @@
+-- What the contracts of `newest` cite.
+pub mod Newest
