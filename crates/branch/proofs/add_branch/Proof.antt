@@ -1,4 +1,4 @@
--- `node::branch::add_branch` meets its contract: 14 where the key is present, and else the entry put in order. Assumes nothing.
+-- `branch::add_branch` meets its contract: 14 where the key is present, and else the entry put in order. Assumes nothing.
 use mathlib.Core.Path.{sym, _∙_}
 use mathlib.Core.Bool.{true, false}
 use mathlib.Core.List.{[]}

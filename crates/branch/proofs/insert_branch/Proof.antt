@@ -1,4 +1,4 @@
--- `node::branch::insert_branch` meets its contract: the check's refusal, 11 for a leaf or a child below 2, and else the replacement or the addition. Assumes nothing.
+-- `branch::insert_branch` meets its contract: the check's refusal, 11 for a leaf or a child below 2, and else the replacement or the addition. Assumes nothing.
 use mathlib.Core.Path.{_≡_, sym, _∙_}
 use mathlib.Core.Bool.{false}
 use borrow.Author.Needs.{needs}

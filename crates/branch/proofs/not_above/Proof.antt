@@ -1,4 +1,4 @@
--- `node::branch::not_above` meets its contract. Assumes nothing.
+-- `branch::not_above` meets its contract. Assumes nothing.
 use Prim.Native.Nat.{_-_}
 use mathlib.Core.Path.{_≡_, sym, _∙_}
 use mathlib.Core.Bool.{false}

@@ -1,4 +1,4 @@
--- `node::branch::not_below` meets its contract: the order of the later key and the new one, turned round. Assumes nothing.
+-- `branch::not_below` meets its contract: the order of the later key and the new one, turned round. Assumes nothing.
 use Prim.Native.Nat.{_+_}
 use mathlib.Core.Path.{_≡_, sym, _∙_}
 use mathlib.Core.Bool.{false}

@@ -1,4 +1,4 @@
--- `node::branch::replace` meets its contract: the plan is that of a replacement. Assumes nothing.
+-- `branch::replace` meets its contract: the plan is that of a replacement. Assumes nothing.
 use mathlib.Core.Bool.{false}
 use mathlib.Core.List.{[]}
 use borrow.Author.Needs.{needs}

@@ -1,4 +1,4 @@
--- `node::branch::replace_branch` meets its contract: 14 where the original key is absent or a neighbour breaks the order, and else the replacement. Assumes nothing.
+-- `branch::replace_branch` meets its contract: 14 where the original key is absent or a neighbour breaks the order, and else the replacement. Assumes nothing.
 use Prim.Native.Nat.{_<_}
 use mathlib.Core.Path.{_≡_, sym, _∙_}
 use mathlib.Core.Bool.{true, false}

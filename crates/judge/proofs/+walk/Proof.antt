@@ -1,4 +1,4 @@
--- `tree::judge::walk` meets its contract; its measure is the levels left. The loop's invariant: for any pages that the words mark at its start, the
+-- `judge::walk` meets its contract; its measure is the levels left. The loop's invariant: for any pages that the words mark at its start, the
 -- walk of all children is the walk of those from `i` on, after the entries counted and with the pages marked by now; and each entry counted
 -- has its page, so that few enough are counted. Assumes nothing.
 use Prim.Native.Nat.{ℕ, _+_, _-_, _*_, _/_, _%_, _≤_, _<_}

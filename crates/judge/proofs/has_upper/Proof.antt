@@ -1,4 +1,4 @@
--- `tree::judge::has_upper` meets its contract. Assumes nothing.
+-- `judge::has_upper` meets its contract. Assumes nothing.
 use Prim.Native.Nat.{_+_}
 use borrow.Author.Needs.{needs}
 use borrow.Author.Tests.{lt-ltb, le-ltb}

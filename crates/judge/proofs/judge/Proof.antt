@@ -1,4 +1,4 @@
--- `tree::judge::judge` meets its contract: geometry, the root as the walk meets it with no page marked, then what is below and the freelist page.
+-- `judge::judge` meets its contract: geometry, the root as the walk meets it with no page marked, then what is below and the freelist page.
 -- Assumes nothing.
 use mathlib.Core.Path.{_≡_, sym, ap, _∙_}
 use mathlib.Core.Bool.{true, false}

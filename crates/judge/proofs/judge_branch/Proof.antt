@@ -1,4 +1,4 @@
--- `tree::judge::judge_branch` meets its contract: the walk of the root's children with the root marked, then the freelist page. Assumes nothing.
+-- `judge::judge_branch` meets its contract: the walk of the root's children with the root marked, then the freelist page. Assumes nothing.
 use mathlib.Core.Path.{sym, ap, _∙_}
 use mathlib.Core.List.{[], _∷_}
 use mathlib.Core.Option.{none}

@@ -1,4 +1,4 @@
--- `tree::judge::meet` meets its contract: rules 1, 2 and 3, then the page's own verdict. Assumes nothing.
+-- `judge::meet` meets its contract: rules 1, 2 and 3, then the page's own verdict. Assumes nothing.
 use Prim.Native.Nat.{_<_}
 use mathlib.Core.Path.{_≡_, sym, _∙_}
 use mathlib.Core.Bool.{true}

@@ -1,4 +1,4 @@
--- `tree::judge::only` meets its contract. Assumes nothing.
+-- `judge::only` meets its contract. Assumes nothing.
 use mathlib.Core.Path.{refl, sym, ap, _∙_}
 use Prim.Native.Nat.{ℕ, _/_}
 use borrow.Author.Needs.{needs}

@@ -1,4 +1,4 @@
--- `tree::judge::upper` meets its contract. Assumes nothing.
+-- `judge::upper` meets its contract. Assumes nothing.
 use Prim.Native.Nat.{_+_}
 use mathlib.Core.Bool.{false}
 use borrow.Author.Needs.{needs}

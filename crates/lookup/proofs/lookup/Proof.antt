@@ -1,4 +1,4 @@
--- `tree::lookup::lookup` meets its contract. The loop's invariant: the lookup from the root with all levels is the lookup from `q` with those left.
+-- `lookup::lookup` meets its contract. The loop's invariant: the lookup from the root with all levels is the lookup from `q` with those left.
 -- Assumes nothing.
 use mathlib.Core.Path.{_≡_, refl, sym, ap, _∙_}
 use mathlib.Core.Bool.{true}

@@ -1,4 +1,4 @@
--- `tree::lookup::lookup_value` meets its contract: what is found lies within the image. Assumes nothing.
+-- `lookup::lookup_value` meets its contract: what is found lies within the image. Assumes nothing.
 use mathlib.Core.Path.{sym, _∙_}
 use Prim.Native.Nat.{_+_, _≤_}
 use borrow.Author.Needs.{needs}

@@ -1,4 +1,4 @@
--- `meta::newest::counted` meets its contract: what was read, and whether it names the page size. Assumes nothing.
+-- `newest::counted` meets its contract: what was read, and whether it names the page size. Assumes nothing.
 use mathlib.Core.Path.{sym, _∙_}
 use borrow.Author.Needs.{needs}
 use borrow.Author.Tests.{eq-eqb, ne-eqb}

@@ -1,4 +1,4 @@
--- `meta::newest::lowest_size` meets its contract. The invariant: what is found among the sizes left is what is found among all.
+-- `newest::lowest_size` meets its contract. The invariant: what is found among the sizes left is what is found among all.
 -- Assumes nothing.
 use mathlib.Core.Path.{_≡_, sym, refl, _∙_}
 use Prim.Native.Nat.{_+_, _*_}

@@ -1,4 +1,4 @@
--- `meta::newest::names_itself` meets its contract. Assumes nothing.
+-- `newest::names_itself` meets its contract. Assumes nothing.
 use mathlib.Core.Path.{sym, _∙_}
 use borrow.Author.Needs.{needs}
 use Rattle.newest.specs.Newest.{namesItself}

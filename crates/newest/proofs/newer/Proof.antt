@@ -1,4 +1,4 @@
--- `meta::newest::newer` meets its contract, case by case. Assumes nothing.
+-- `newest::newer` meets its contract, case by case. Assumes nothing.
 use borrow.Author.Needs.{needs}
 use borrow.Author.Tests.{lt-ltb, le-ltb}
 use Rattle.newest.proofs.newer.Statement.{statement}

@@ -1,4 +1,4 @@
--- `meta::newest::newest_at` meets its contract: an image of two pages has both metas. Assumes nothing.
+-- `newest::newest_at` meets its contract: an image of two pages has both metas. Assumes nothing.
 use mathlib.Core.Path.{sym}
 use borrow.Author.Needs.{needs}
 use borrow.Author.Tests.{lt-ltb, le-ltb}

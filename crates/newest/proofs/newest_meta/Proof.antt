@@ -1,4 +1,4 @@
--- `meta::newest::newest_meta` meets its contract: each answer is that of the tests that led to it. Assumes nothing.
+-- `newest::newest_meta` meets its contract: each answer is that of the tests that led to it. Assumes nothing.
 use mathlib.Core.Path.{sym, ap, _∙_}
 use borrow.Author.Needs.{needs}
 use borrow.Author.Tests.{not-true, not-false}

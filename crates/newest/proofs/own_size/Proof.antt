@@ -1,4 +1,4 @@
--- `meta::newest::own_size` meets its contract. Assumes nothing.
+-- `newest::own_size` meets its contract. Assumes nothing.
 use mathlib.Core.Path.{sym, _∙_}
 use borrow.Author.Needs.{needs}
 use Rattle.newest.proofs.own_size.Statement.{statement}

@@ -1,4 +1,4 @@
--- `meta::newest::read_at` meets its contract: past the image's end there are no bytes to read. Assumes nothing.
+-- `newest::read_at` meets its contract: past the image's end there are no bytes to read. Assumes nothing.
 use mathlib.Core.Path.{ap, _∙_}
 use borrow.Author.Needs.{needs}
 use native.Mathlib.Omega.{arith}

@@ -1,4 +1,4 @@
--- `meta::newest::size_found` meets its contract: page 0's own size, or that of the search. Assumes nothing.
+-- `newest::size_found` meets its contract: page 0's own size, or that of the search. Assumes nothing.
 use mathlib.Core.Path.{sym, ap, _∙_}
 use borrow.Author.Needs.{needs}
 use Rattle.newest.specs.Newest.{ownSize, sizeFound}

@@ -1,4 +1,4 @@
--- `tree::freelist::after_tree` meets its contract, rule by rule, for any pages that the words mark. Assumes nothing.
+-- `judge::freelist::after_tree` meets its contract, rule by rule, for any pages that the words mark. Assumes nothing.
 use Prim.Native.Nat.{ℕ, _*_, _/_, _<_}
 use mathlib.Core.Path.{_≡_, refl, sym, ap, _∙_}
 use mathlib.Core.Bool.{true}

@@ -1,4 +1,4 @@
--- `tree::freelist::check_ids` meets its contract: the table, then the ids, each rule over all before the next. Assumes nothing.
+-- `judge::freelist::check_ids` meets its contract: the table, then the ids, each rule over all before the next. Assumes nothing.
 use Prim.Native.Nat.{ℕ, _+_, _-_, _*_, _≤_}
 use mathlib.Core.Path.{_≡_, sym, ap, _∙_}
 use borrow.Author.Needs.{needs}

@@ -1,4 +1,4 @@
--- `tree::freelist::first_marked` meets its contract. The loop's invariant: for any pages that the words mark, the first bad one of all is the
+-- `judge::freelist::first_marked` meets its contract. The loop's invariant: for any pages that the words mark, the first bad one of all is the
 -- first of those from `i` on. Assumes nothing.
 use Prim.Native.Nat.{ℕ, _-_, _≤_, _<_}
 use mathlib.Core.Path.{_≡_, refl, sym, ap, _∙_}

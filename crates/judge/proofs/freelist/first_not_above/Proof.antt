@@ -1,4 +1,4 @@
--- `tree::freelist::first_not_above` meets its contract. The loop's invariant: the first bad one of all is the first of those from `i` on. Assumes nothing.
+-- `judge::freelist::first_not_above` meets its contract. The loop's invariant: the first bad one of all is the first of those from `i` on. Assumes nothing.
 use Prim.Native.Nat.{_-_, _≤_}
 use mathlib.Core.Path.{_≡_, refl, sym, ap, _∙_}
 use mathlib.Core.Bool.{not}

@@ -1,4 +1,4 @@
--- `tree::freelist::free_header_bad` meets its contract. Assumes nothing.
+-- `judge::freelist::free_header_bad` meets its contract. Assumes nothing.
 use Prim.Native.Nat.{_+_, _-_}
 use mathlib.Core.Path.{sym, _∙_}
 use borrow.Author.Needs.{needs}

@@ -1,4 +1,4 @@
--- `tree::range::above` meets its contract. Assumes nothing.
+-- `judge::range::above` meets its contract. Assumes nothing.
 use mathlib.Core.Path.{sym, _∙_}
 use borrow.Author.Needs.{needs}
 use denote.Ref.{now}

@@ -1,4 +1,4 @@
--- `tree::range::check_range` meets its contract: the keys rise, so where the first and the last are in range, all are. Assumes nothing.
+-- `judge::range::check_range` meets its contract: the keys rise, so where the first and the last are in range, all are. Assumes nothing.
 use Prim.Native.Nat.{ℕ, _-_}
 use mathlib.Core.Path.{_≡_, sym, ap, _∙_}
 use mathlib.Core.Bool.{not}

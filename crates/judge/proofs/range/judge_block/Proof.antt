@@ -1,4 +1,4 @@
--- `tree::range::judge_block` meets its contract: the range only where the check found nothing. Assumes nothing.
+-- `judge::range::judge_block` meets its contract: the range only where the check found nothing. Assumes nothing.
 use Prim.Native.Nat.{ℕ}
 use mathlib.Core.Path.{sym, ap, _∙_}
 use borrow.Author.Needs.{needs}

@@ -1,4 +1,4 @@
--- `tree::range::judge_page` meets its contract: the header, then the block. Assumes nothing.
+-- `judge::range::judge_page` meets its contract: the header, then the block. Assumes nothing.
 use mathlib.Core.Path.{_≡_, sym, ap, _∙_}
 use mathlib.Core.Bool.{false}
 use Prim.Native.Nat.{_*_, _≤_}

@@ -1,4 +1,4 @@
--- `tree::range::out` meets its contract: the lower end first, then the upper. Assumes nothing.
+-- `judge::range::out` meets its contract: the lower end first, then the upper. Assumes nothing.
 use mathlib.Core.Path.{refl, sym, _∙_}
 use borrow.Author.Needs.{needs}
 use denote.Ref.{now}

@@ -1,4 +1,4 @@
--- `tree::descent::child_for` meets its contract: the place that the search finds is the child's. Assumes nothing.
+-- `lookup::descent::child_for` meets its contract: the place that the search finds is the child's. Assumes nothing.
 use mathlib.Core.Path.{_≡_, sym, ap, _∙_}
 use borrow.Author.Needs.{needs}
 use native.Mathlib.Omega.{arith}

@@ -1,4 +1,4 @@
--- `tree::descent::look_at` meets its contract: the header, then the block's check, then its search. Assumes nothing.
+-- `lookup::descent::look_at` meets its contract: the header, then the block's check, then its search. Assumes nothing.
 use mathlib.Core.Path.{_≡_, sym, ap, _∙_}
 use mathlib.Core.Bool.{false}
 use mathlib.Core.List.{List}

@@ -1,4 +1,4 @@
--- `tree::descent::seek` meets its contract: the entry at the place found, or none. Assumes nothing.
+-- `lookup::descent::seek` meets its contract: the entry at the place found, or none. Assumes nothing.
 use mathlib.Core.Path.{_≡_, sym, ap, _∙_}
 use mathlib.Core.Bool.{true}
 use Prim.Native.Nat.{_<_, _≤_}

@@ -1,4 +1,4 @@
--- `tree::image::block` meets its contract: the block ends within the image. Assumes nothing.
+-- `view::image::block` meets its contract: the block ends within the image. Assumes nothing.
 use mathlib.Core.Path.{_≡_, ap, _∙_}
 use Prim.Native.Nat.{_+_, _*_, _≤_}
 use borrow.Author.Needs.{needs}

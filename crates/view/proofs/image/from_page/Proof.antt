@@ -1,4 +1,4 @@
--- `tree::image::from_page` meets its contract: page q of N lies within the image. Assumes nothing.
+-- `view::image::from_page` meets its contract: page q of N lies within the image. Assumes nothing.
 use borrow.Author.Needs.{needs}
 use native.Mathlib.Omega.{arith}
 use denote.Ref.{now}

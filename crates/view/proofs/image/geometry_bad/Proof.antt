@@ -1,4 +1,4 @@
--- `tree::image::geometry_bad` meets its contract, test by test. Assumes nothing.
+-- `view::image::geometry_bad` meets its contract, test by test. Assumes nothing.
 use mathlib.Core.Path.{sym, _∙_}
 use borrow.Author.Needs.{needs}
 use borrow.Author.Tests.{not-true, not-false}

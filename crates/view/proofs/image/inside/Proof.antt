@@ -1,4 +1,4 @@
--- `tree::image::inside` meets its contract. Assumes nothing.
+-- `view::image::inside` meets its contract. Assumes nothing.
 use borrow.Author.Tests.{le-leb, lt-leb}
 use Rattle.view.proofs.image.inside.Statement.{statement}
 use Rattle.view.proofs.image.inside.Tie as tie
