@@ -13,6 +13,7 @@ pub fn run() {
     for characters in [10_000, 100_000] {
         shard::run(&mut table, characters);
     }
+    shard::run_long(&mut table, 120);
     blocks::run(&mut table);
     tables::run(&mut table);
     table.print();

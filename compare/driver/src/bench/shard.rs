@@ -1,7 +1,7 @@
 //! Lookup and the judge on a shard of characters, beside `Bucket::get`, `DB::check` and a plain read of the image.
 
 use oracle::probe::file;
-use oracle::{Bucket, DB};
+use oracle::{Bucket, Tx, DB};
 use proved::Proved;
 use subject::Subject;
 
@@ -12,17 +12,19 @@ use crate::rng::Rng;
 const PAGE_SIZE: u64 = 4_096;
 const BUCKET: &str = "characters";
 const LOOKUPS: usize = 10_000;
+/// The fewest and the most bytes of a value: a usual one's, and a long one's, of 2 to 350 pages.
+const SHORT: (u64, u64) = (80, 240);
+const LONG: (u64, u64) = (2 * PAGE_SIZE, 350 * PAGE_SIZE);
 
 /// Times the calls on a shard of so many characters.
 pub fn run(table: &mut Table, characters: usize) {
     let mut rng = Rng::new(1);
     let file = Temporary::new("bench");
     let db = open(&file.path, PAGE_SIZE);
-    let keys = fill(&db, &mut rng, characters);
+    let keys = fill(&db, &mut rng, characters, SHORT);
     let tx = db.tx(false).unwrap();
     let bucket = tx.get_bucket(BUCKET).unwrap();
-    let shard = Shard { view: View::new(&tx, &file.path), root: file::root(&bucket), characters };
-    println!("{characters} characters: {} pages of {PAGE_SIZE} bytes", shard.view.meta.num_pages);
+    let shard = Shard::new(&tx, &file, format!("{characters} characters"));
     let present: Vec<Vec<u8>> = (0..LOOKUPS).map(|_| rng.pick(&keys)).collect();
     let absent: Vec<Vec<u8>> = present.iter().map(|key| [key.as_slice(), b"!"].concat()).collect();
     shard.lookups(table, &bucket, "a key that is there", &present);
@@ -31,14 +33,29 @@ pub fn run(table: &mut Table, characters: usize) {
     shard.judges(table, &db);
 }
 
-/// The image of a shard and the root of its characters.
+/// Times the judge on a shard of so many characters with long values.
+pub fn run_long(table: &mut Table, characters: usize) {
+    let file = Temporary::new("bench-long");
+    let db = open(&file.path, PAGE_SIZE);
+    fill(&db, &mut Rng::new(1), characters, LONG);
+    let tx = db.tx(false).unwrap();
+    Shard::new(&tx, &file, format!("{characters} characters, values of 2 to 350 pages")).judges(table, &db);
+}
+
+/// The image of a shard, the root of its characters, and what it is called.
 struct Shard {
     view: View,
     root: u64,
-    characters: usize,
+    name: String,
 }
 
 impl Shard {
+    fn new(tx: &Tx, file: &Temporary, name: String) -> Shard {
+        let view = View::new(tx, &file.path);
+        println!("{name}: {} pages of {PAGE_SIZE} bytes", view.meta.num_pages);
+        Shard { view, root: file::root(&tx.get_bucket(BUCKET).unwrap()), name }
+    }
+
     fn lookup(&self, key: &[u8]) -> (u64, usize, usize) {
         let mut answer = [0; 48];
         let (p, n) = (self.view.meta.pagesize, self.view.meta.num_pages);
@@ -48,7 +65,7 @@ impl Shard {
     }
 
     fn lookups(&self, table: &mut Table, bucket: &Bucket, which: &str, keys: &[Vec<u8>]) {
-        let call = format!("lookup, {which}, {} characters", self.characters);
+        let call = format!("lookup, {which}, {}", self.name);
         let race = Race { call, peer: "Bucket::get", times: keys.len(), goal: Some(2.0) };
         table.race(
             race,
@@ -59,7 +76,7 @@ impl Shard {
 
     /// The value's bytes, each of them looked at.
     fn values(&self, table: &mut Table, bucket: &Bucket, keys: &[Vec<u8>]) {
-        let call = format!("lookup and the value read, {} characters", self.characters);
+        let call = format!("lookup and the value read, {}", self.name);
         let race = Race { call, peer: "Bucket::get", times: keys.len(), goal: Some(2.0) };
         let sum = |value: &[u8]| value.iter().map(|byte| u64::from(*byte)).sum::<u64>();
         let ours = |key: &[u8]| {
@@ -82,7 +99,7 @@ impl Shard {
             Proved.judge(bytes, meta.pagesize, meta.num_pages, self.root, meta.freelist_page, &mut answer)
         };
         assert_eq!((judge(), db.check()), (0, Ok(())), "both pass");
-        let call = format!("judge, {} characters", self.characters);
+        let call = format!("judge, {}", self.name);
         let race = Race { call: call.clone(), peer: "DB::check", times: 1, goal: Some(1.5) };
         table.race(race, || keep(judge()), || keep(db.check()));
         let race = Race { call, peer: "a plain read of the image", times: 1, goal: None };
@@ -91,15 +108,15 @@ impl Shard {
     }
 }
 
-/// Puts so many characters, a thousand in a transaction, and answers their keys.
-fn fill(db: &DB, rng: &mut Rng, characters: usize) -> Vec<Vec<u8>> {
+/// Puts so many characters with values of a length between these, a thousand in a transaction, and answers their keys.
+fn fill(db: &DB, rng: &mut Rng, characters: usize, (shortest, longest): (u64, u64)) -> Vec<Vec<u8>> {
     let mut keys: Vec<Vec<u8>> = (0..characters).map(|i| key(rng, i)).collect();
     rng.shuffle(&mut keys);
     for part in keys.chunks(1_000) {
         let tx = db.tx(true).unwrap();
         let bucket = tx.get_or_create_bucket(BUCKET).unwrap();
         for key in part {
-            let length = rng.between(80, 240) as usize;
+            let length = rng.between(shortest, longest) as usize;
             bucket.put(key.clone(), rng.bytes(length)).unwrap();
         }
         drop(bucket);
