@@ -24,11 +24,6 @@ same-or a b = ⊎-elim (λ h. inr (λ e. omega arith)) (⊎-elim inl (λ h. inr 
 pub lt-or-le : (a b : ℕ) → (a < b) ⊎ (b ≤ a)
 lt-or-le a b = ⊎-elim inl (⊎-elim (λ e. inr (omega arith)) (λ h. inr (omega arith))) (tri a b)
 
--- in the row of k numbers from p on, or not
-pub row-or : (p k q : ℕ) → ((p ≤ q) × (q < p + k)) ⊎ (p ≤ q → q < p + k → ⊥)
-row-or p k q =
-    ⊎-elim (λ h. inr (λ a b. omega arith)) (λ h. ⊎-elim (λ l. inl (h, l)) (λ l. inr (λ a b. omega arith)) (lt-or-le q (p + k))) (lt-or-le q p)
-
 pub one-shl : (k : ℕ) → k < 64 → (1 * 2 ^ k) % 2 ^ 64 ≡ 2 ^ k
 one-shl k h = shl-exact 1 k 64 (lit< tt) (omega arith) ∙ one-mul (2 ^ k)
 

@@ -5,3 +5,4 @@ pub mod OrderLaws
 pub mod WordLaws
 pub mod BitLaws
 pub mod MarkLaws
+pub mod PartLaws

@@ -2,7 +2,7 @@
 -- Assumes nothing.
 use mathlib.Core.Path.{_≡_}
 use mathlib.Core.List.{List}
-use mathlib.Core.Bool.{Bool}
+use mathlib.Core.Bool.{Bool, cond}
 use Prim.Native.Nat.{ℕ, zero, suc, _+_, _/_, _%_, _^_}
 use lib.Dec.{eqb}
 use lib.Bits.{bitOr}
@@ -40,6 +40,16 @@ count m = countBelow m 32768
 -- the set with page p in it
 unfoldable pub withMark : List ℕ → ℕ → List ℕ
 withMark m p = set m (p / 64) (markIn (getD m (p / 64) 0) p)
+
+-- the set with the k pages from p on in it
+unfoldable pub withMarks : List ℕ → ℕ → ℕ → List ℕ
+withMarks m p zero = m
+withMarks m p (suc k) = withMarks (withMark m p) (p + 1) k
+
+-- the lowest marked of the k pages from p on, or the page after them where none is
+unfoldable pub lowestMarked : List ℕ → ℕ → ℕ → ℕ
+lowestMarked m p zero = p
+lowestMarked m p (suc k) = cond (isMarked m p) p (lowestMarked m (p + 1) k)
 
 -- the set with no page in it
 unfoldable pub noMarks : List ℕ

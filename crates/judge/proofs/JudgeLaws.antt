@@ -8,7 +8,7 @@ use Prim.Native.Nat.{ℕ}
 use Rattle.walk.specs.Tree.{walk}
 use Rattle.view.specs.Geometry.{geometryBad}
 use Rattle.view.specs.Fault.{faultAt}
-use Rattle.view.specs.View.{viewOf}
+use Rattle.view.specs.View.{viewOf, pagesOf}
 use Rattle.judge.specs.declared.Judged.the-variants.{Refused}
 use Rattle.judge.specs.Judge.{afterTree, judgeOf}
 
@@ -17,6 +17,6 @@ module _ (image : List ℕ) (P N root f : ℕ) where
   unfolding judgeOf
   judge-geometry e = rw e
 
-  pub judge-tree : geometryBad image P N ≡ false → judgeOf image P N root f ≡ afterTree image P N f (walk N (viewOf image P N) 16 true root [] none [])
+  pub judge-tree : geometryBad image P N ≡ false → judgeOf image P N root f ≡ afterTree image P N f (walk N (pagesOf image P N) (viewOf image P N) 16 true root [] none [])
   unfolding judgeOf
   judge-tree e = rw e

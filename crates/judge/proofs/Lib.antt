@@ -1,5 +1,6 @@
 -- The laws on the judge's walk.
 pub mod JudgeLaws
 pub mod RangeLaws
+pub mod MarksLaws
 pub mod WalkLaws
 pub mod PageLaws

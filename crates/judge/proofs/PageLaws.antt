@@ -2,8 +2,8 @@
 -- Assumes nothing.
 use mathlib.Core.Path.{_≡_, refl, sym, ap, _∙_}
 use mathlib.Core.Bool.{Bool, true, false, not}
-use mathlib.Core.List.{List, _∷_}
-use mathlib.Core.Option.{Option}
+use mathlib.Core.List.{List, _++_}
+use mathlib.Core.Option.{Option, none, some}
 use Prim.Native.Nat.{ℕ, _+_, _-_, _*_, _≤_, _<_}
 use native.Mathlib.Omega.{arith}
 use borrow.Author.Tests.{lt-ltb, le-ltb, leb-false, not-false}
@@ -16,60 +16,68 @@ use Rattle.page.specs.PageRules.{andThen, firstBad, headerBad, blockOf, checkOf
 use Rattle.page.proofs.FirstBreach.{breach-first}
 use Rattle.page.proofs.RuleLaws.{bad-none-at}
 use Rattle.page.proofs.TestLaws.{or-neither}
-use Rattle.walk.specs.Tree.{Key, Item, branch, keys, inside, memb, firstOut}
+use Rattle.walk.specs.Tree.{Key, Item, branch, keys, inside, firstIn, firstOut}
 use Rattle.judge.specs.declared.range.Page.{Page}
 use Rattle.judge.specs.declared.range.Page.the-variants.{Branch, Leaf, Breach}
-use Rattle.view.specs.View.{row, childItem, valueItem, viewOf}
+use Rattle.view.specs.View.{row, childItem, valueItem, viewOf, pagesAt, pagesOf}
+use Rattle.view.specs.Fault.{faultAt}
+use Rattle.judge.specs.declared.Judged.the-variants.{Refused}
 use Rattle.view.specs.Geometry.{SoundSizes}
-use Rattle.judge.specs.Judge.{freeHeaderBad, idAt, idOutside, idNotAbove, idMarked, idsOf, freelistOf}
-use Rattle.judge.specs.Walk.{keyOut, breachIfOut, judgePageOf, Branching}
+use Rattle.judge.specs.Judge.{freeHeaderBad, idAt, idOutside, idNotAbove, idMarked, idsOf, freelistOf, judgedOf}
+use Rattle.judge.specs.Walk.{keyOut, breachIfOut, judgePageOf, metOf, Branching}
 use Rattle.view.proofs.ViewLaws.{length-row, view-branch, view-leaf, bad-header, leaf-bad, branch-bad, leaf-good, branch-good}
-use Rattle.judge.proofs.WalkLaws.{optionOf, out-row, page-branch, page-leaf}
+use Rattle.view.proofs.PagesLaws.{pages-bad}
+use Rattle.judge.proofs.WalkLaws.{meet-page, optionOf, out-row, page-branch, page-leaf}
 use Rattle.view.proofs.ViewFrame.{header-ends}
 use Rattle.view.proofs.ImageLaws.{block-small}
 use Rattle.view.proofs.GeometryLaws.{inside-parts}
 
 -- ---- a page of the tree
-out-told : (bad : ℕ → Bool) (k i : ℕ) (p : Page) → breachIfOut (optionOf (firstBad bad 7 k i)) p ≡ afterCheck (firstBad bad 7 k i) Breach p
-out-told bad k i p = go (firstBad bad 7 k i) refl
+out-told : (bad : ℕ → Bool) (q k i : ℕ) (p : Page) → breachIfOut (optionOf (firstBad bad 7 k i)) q p ≡ afterCheck (firstBad bad 7 k i) (λ r j. Breach r q j) p
+out-told bad q k i p = go (firstBad bad 7 k i) refl
   where
-    go : (v : Verdict) → firstBad bad 7 k i ≡ v → breachIfOut (optionOf v) p ≡ afterCheck v Breach p
+    go : (v : Verdict) → firstBad bad 7 k i ≡ v → breachIfOut (optionOf v) q p ≡ afterCheck v (λ r j. Breach r q j) p
     go verdict.Sound e = refl
     go (verdict.Breach r j) e = let h = breach-first bad 7 k i r j e .0 in rw h
 
-ranged : {A : Type 0} (f : ℕ → Item A) (low : Key) (high : Option Key) (k : ℕ) (p : Page)
-    → breachIfOut (firstOut low high (keys (row f k 0)) 0) p ≡ afterCheck (firstBad (λ j. not (Rattle.walk.specs.Tree.inRange low high (f j .key))) 7 k 0) Breach p
-ranged f low high k p = ap (λ (o : Option ℕ). breachIfOut o p) (out-row f low high k 0) ∙ out-told (λ j. not (Rattle.walk.specs.Tree.inRange low high (f j .key))) k 0 p
+ranged : {A : Type 0} (f : ℕ → Item A) (low : Key) (high : Option Key) (q k : ℕ) (p : Page)
+    → breachIfOut (firstOut low high (keys (row f k 0)) 0) q p ≡ afterCheck (firstBad (λ j. not (Rattle.walk.specs.Tree.inRange low high (f j .key))) 7 k 0) (λ r j. Breach r q j) p
+ranged f low high q k p = ap (λ (o : Option ℕ). breachIfOut o q p) (out-row f low high k 0) ∙ out-told (λ j. not (Rattle.walk.specs.Tree.inRange low high (f j .key))) q k 0 p
 
 module _ (image : List ℕ) (P N q : ℕ) (top : Bool) (low : Key) (high : Option Key) where
-  pub header-page : headerBad N q (drop (q * P) image) ≡ true → judgePageOf (viewOf image P N q top) low high ≡ Breach 3 0
-  unfolding judgePageOf
-  header-page e = rw (bad-header image P N q top e)
-
   module _ (s : List ℕ) (is : s ≡ blockOf image P q) (header : headerBad N q (drop (q * P) image) ≡ false) where
     pub leaf-page : isLeaf s ≡ true
-        → judgePageOf (viewOf image P N q top) low high ≡ afterCheck (andThen (checkOf true top s) (firstBad (keyOut true s low high) 7 (countOf s) 0)) Breach (Leaf (countOf s))
+        → judgePageOf (viewOf image P N q top) q low high ≡ afterCheck (andThen (checkOf true top s) (firstBad (keyOut true s low high) 7 (countOf s) 0)) (λ r j. Breach r q j) (Leaf (countOf s))
     unfolding judgePageOf
     leaf-page l = go (checkOf true top s) refl
       where
         go : (c : Verdict) → checkOf true top s ≡ c
-            → judgePageOf (viewOf image P N q top) low high ≡ afterCheck (andThen c (firstBad (keyOut true s low high) 7 (countOf s) 0)) Breach (Leaf (countOf s))
+            → judgePageOf (viewOf image P N q top) q low high ≡ afterCheck (andThen c (firstBad (keyOut true s low high) 7 (countOf s) 0)) (λ r j. Breach r q j) (Leaf (countOf s))
         go (verdict.Breach r e) c = rw (leaf-bad image P N q top s is header r e l c)
         go verdict.Sound c =
             rw (leaf-good image P N q top s is header l c, length-row (valueItem (q * P) s) (countOf s) 0)
-            (ranged (valueItem (q * P) s) low high (countOf s) (Leaf (countOf s)))
+            (ranged (valueItem (q * P) s) low high q (countOf s) (Leaf (countOf s)))
 
     pub branch-page : isLeaf s ≡ false
-        → judgePageOf (viewOf image P N q top) low high ≡ afterCheck (andThen (checkOf false false s) (firstBad (keyOut false s low high) 7 (countOf s) 0)) Breach (Branch (countOf s))
+        → judgePageOf (viewOf image P N q top) q low high ≡ afterCheck (andThen (checkOf false false s) (firstBad (keyOut false s low high) 7 (countOf s) 0)) (λ r j. Breach r q j) (Branch (countOf s))
     unfolding judgePageOf
     branch-page l = go (checkOf false false s) refl
       where
         go : (c : Verdict) → checkOf false false s ≡ c
-            → judgePageOf (viewOf image P N q top) low high ≡ afterCheck (andThen c (firstBad (keyOut false s low high) 7 (countOf s) 0)) Breach (Branch (countOf s))
+            → judgePageOf (viewOf image P N q top) q low high ≡ afterCheck (andThen c (firstBad (keyOut false s low high) 7 (countOf s) 0)) (λ r j. Breach r q j) (Branch (countOf s))
         go (verdict.Breach r e) c = rw (branch-bad image P N q top s is header r e l c)
         go verdict.Sound c =
             rw (branch-good image P N q top s is header l c, length-row (childItem s) (countOf s) 0)
-            (ranged (childItem s) low high (countOf s) (Branch (countOf s)))
+            (ranged (childItem s) low high q (countOf s) (Branch (countOf s)))
+
+-- a page with a bad header has no block, and is refused for its header
+pub meet-header : (image : List ℕ) (P N q left : ℕ) (top : Bool) (low : Key) (high : Option Key) (vs : List ℕ)
+    → 0 < left → inside N q ≡ true → headerBad N q (drop (q * P) image) ≡ true
+    → metOf N (pagesOf image P N) (viewOf image P N) left top q low high vs ≡ Breach 3 q 0
+unfolding firstIn judgePageOf
+meet-header image P N q left top low high vs spare within e =
+    meet-page N (pagesOf image P N) (viewOf image P N) left top q low high vs spare within (ap (λ (ps : List ℕ). firstIn ps vs) (pages-bad image P N q e))
+    ∙ rw (bad-header image P N q top e)
 
 -- ---- the freelist block
 module _ (N : ℕ) (b vs : List ℕ) where
@@ -94,29 +102,33 @@ free-ends N f s e =
     let b = or-neither (not (eqb (typeOf s) 4)) (leb N (f + overflowOf s)) (a .1) in
     leb-false _ _ (b .1)
 
-module _ (image : List ℕ) (P N f : ℕ) (vs : List ℕ) where
-  pub list-outside : inside N f ≡ false → freelistOf image P N f vs ≡ verdict.Breach 2 0
+module _ (image : List ℕ) (P N f entries : ℕ) (vs : List ℕ) where
+  pub list-outside : inside N f ≡ false → freelistOf image P N f entries vs ≡ Refused (faultAt 2 f 0)
   unfolding freelistOf
   list-outside e = rw e
 
-  pub list-twice : inside N f ≡ true → memb f vs ≡ true → freelistOf image P N f vs ≡ verdict.Breach 8 0
-  unfolding freelistOf
-  list-twice e m = rw (e, m)
+  module _ (within : inside N f ≡ true) where
+    pub list-header : freeHeaderBad N f (drop (f * P) image) ≡ true → freelistOf image P N f entries vs ≡ Refused (faultAt 3 f 0)
+    unfolding freelistOf
+    list-header h = rw (within, h)
 
-  pub list-header : inside N f ≡ true → memb f vs ≡ false → freeHeaderBad N f (drop (f * P) image) ≡ true → freelistOf image P N f vs ≡ verdict.Breach 3 0
-  unfolding freelistOf
-  list-header e m h = rw (e, m, h)
+    module _ (header : freeHeaderBad N f (drop (f * P) image) ≡ false) where
+      pub list-twice : (page : ℕ) → firstIn (pagesAt image P f) vs ≡ some page → freelistOf image P N f entries vs ≡ Refused (faultAt 8 page 0)
+      unfolding freelistOf
+      list-twice page e = rw (within, header, e)
 
-  pub list-ids : inside N f ≡ true → memb f vs ≡ false → freeHeaderBad N f (drop (f * P) image) ≡ false → freelistOf image P N f vs ≡ idsOf N (f ∷ vs) (blockOf image P f)
-  unfolding freelistOf
-  list-ids e m h = rw (e, m, h)
+      pub list-ids : firstIn (pagesAt image P f) vs ≡ none
+          → freelistOf image P N f entries vs
+          ≡ judgedOf (idsOf N (pagesAt image P f ++ vs) (blockOf image P f)) f entries (length (pagesAt image P f ++ vs))
+      unfolding freelistOf
+      list-ids e = rw (within, header, e)
 
 -- ---- what a page's verdict says of its block
 module _ (image : List ℕ) (P N q : ℕ) (top : Bool) (low : Key) (high : Option Key) (n : ℕ) where
-  pub told-branch : judgePageOf (viewOf image P N q top) low high ≡ Branch n
+  pub told-branch : judgePageOf (viewOf image P N q top) q low high ≡ Branch n
       → Branching image P N q n × (viewOf image P N q top ≡ branch (row (childItem (blockOf image P q)) n 0))
   told-branch e =
-      let x = page-branch (viewOf image P N q top) low high n e in
+      let x = page-branch (viewOf image P N q top) q low high n e in
       let b = view-branch image P N q top (x .0) (x .1) in
       let c : n ≡ countOf (blockOf image P q) = sym (x .2) ∙ ap length (b .items) ∙ length-row (childItem (blockOf image P q)) (countOf (blockOf image P q)) 0 in (
         record { ends = header-ends N q (drop (q * P) image) (b .header); sound = b .sound; counted = c },
@@ -124,9 +136,9 @@ module _ (image : List ℕ) (P N q : ℕ) (top : Bool) (low : Key) (high : Optio
       )
 
   -- a leaf has fewer entries than the image has bytes
-  pub few-entries : SoundSizes image P N → judgePageOf (viewOf image P N q top) low high ≡ Leaf n → n ≤ 2147483648
+  pub few-entries : SoundSizes image P N → judgePageOf (viewOf image P N q top) q low high ≡ Leaf n → n ≤ 2147483648
   few-entries sizes e =
-      let x = page-leaf (viewOf image P N q top) low high n e in
+      let x = page-leaf (viewOf image P N q top) q low high n e in
       let b = view-leaf image P N q top (x .0) (x .1) in
       let c : n ≡ countOf (blockOf image P q) = sym (x .2) ∙ ap length (b .items) ∙ length-row (valueItem (q * P) (blockOf image P q)) (countOf (blockOf image P q)) 0 in
       let f = b .sound .fits in

@@ -1,24 +1,19 @@
--- The judge's walk, step by step: the words that mark the pages visited, one page's verdict, and the children in a row.
+-- The judge's walk, step by step: one page's verdict, and the children in a row.
 -- Assumes nothing.
 use mathlib.Core.Path.{_≡_, refl, sym, ap, subst, _∙_}
 use mathlib.Core.Bool.{Bool, true, false, cond, not, _||_}
-use mathlib.Core.List.{List, [], _∷_}
-use mathlib.Core.Logic.{⊎-elim}
+use mathlib.Core.List.{List, _++_}
 use mathlib.Core.Option.{Option, none, some}
-use Prim.Native.Nat.{ℕ, zero, suc, _+_, _-_, _%_, _^_, _≤_, _<_}
-use native.Mathlib.Nat.{zero-div}
+use Prim.Native.Nat.{ℕ, zero, suc, _+_, _-_, _≤_, _<_}
 use native.Mathlib.Numerals.{add-one}
 use native.Mathlib.Omega.{arith}
-use borrow.Author.Tests.{eq-eqb, ne-eqb, eqb-false, lt-ltb, le-ltb}
+use borrow.Author.Tests.{lt-ltb, le-ltb}
 use lib.Dec.{ltb}
 use lib.ListN.{length}
-use Rattle.field.specs.Marks.{markedIn, mark, isMarked, withMark, noMarks, count}
-use Rattle.field.proofs.BitLaws.{same-or}
-use Rattle.field.proofs.MarkLaws.{mark-lt, with-same, with-other, count-with, mark-none, count-none, length-none}
 use Rattle.page.specs.declared.rules.Verdict.{Verdict}
 use Rattle.page.specs.declared.rules.Verdict.the-variants as verdict
 use Rattle.page.specs.PageRules.{firstBad}
-use Rattle.walk.specs.Tree.{Key, Item, View, bad, branch, leaf, keys, inRange, memb, inside, firstOut, next, Walker, pass, fault, walkAll, walkPage, walk, Verdict as Walk}
+use Rattle.walk.specs.Tree.{Key, Item, View, bad, branch, leaf, keys, inRange, inside, firstIn, firstOut, next, Walker, pass, fault, walkAll, walkPage, walk, Verdict as Walk}
 use Rattle.view.specs.declared.Fault.{Fault}
 use Rattle.view.specs.declared.Value.{Value}
 use Rattle.judge.specs.declared.range.Page.{Page}
@@ -27,88 +22,53 @@ use Rattle.judge.specs.declared.Walked.{Walked}
 use Rattle.judge.specs.declared.Outcome.the-variants.{Passed, Broken}
 use Rattle.view.specs.Fault.{faultAt}
 use Rattle.view.specs.View.{row}
-use Rattle.judge.specs.Walk.{upperOf, breachIfOut, judgePageOf, metOf, Marks, Says}
-
--- ---- the marks
-pub marks-none : Marks noMarks []
-marks-none = record { each = λ k l. rw (mark-none k); counted = count-none }
-
--- a page that is not marked has the mark 0
-unmarked : (m : List ℕ) (p : ℕ) → isMarked m p ≡ false → mark m p ≡ 0
-unmarked m p fresh = go (mark m p) (mark-lt m p) (eqb-false (mark m p) 1 fresh)
-  where
-    go : (x : ℕ) → x < 2 → (x ≡ 1 → ⊥) → x ≡ 0
-    go zero l n = refl
-    go (suc zero) l n = absurd (n refl)
-    go (suc (suc x)) l n = absurd (omega arith)
-
-pub count-more : (m : List ℕ) (p : ℕ) → length m ≡ 512 → p < 32768 → isMarked m p ≡ false → count (withMark m p) ≡ count m + 1
-count-more m p long small fresh = count-with m p long small (unmarked m p fresh)
-
-pub marks-with : (m vs : List ℕ) (p : ℕ) → Marks m vs → length m ≡ 512 → p < 32768 → isMarked m p ≡ false → Marks (withMark m p) (p ∷ vs)
-marks-with m vs p h long small fresh =
-    let c = h .counted in
-    record {
-      each = λ k l. ⊎-elim (here k) (λ n. rw (with-other m p long small k n, ne-eqb k p n) (h .each k l)) (same-or k p);
-      counted = omega (arith, count-more m p long small fresh);
-    }
-  where
-    here : (k : ℕ) → k ≡ p → isMarked (withMark m p) k ≡ memb k (p ∷ vs)
-    here k e = rw (e, with-same m p long small, eq-eqb p p refl)
-
--- the root alone
-pub marks-only : (p : ℕ) → p < 32768 → Marks (withMark noMarks p) (p ∷ [])
-marks-only p small = marks-with noMarks [] p marks-none length-none small (marks-none .each p small)
-
--- no page is marked in a word that is 0
-pub word-clear : (p : ℕ) → markedIn 0 p ≡ false
-word-clear p = rw (zero-div (2 ^ (p % 64)))
+use Rattle.judge.specs.Walk.{upperOf, breachIfOut, breachIfTwice, judgePageOf, metOf, NoBreach, Marks, Says}
 
 -- ---- one page, with `left` levels to spend
-module _ (N : ℕ) (view : ℕ → Bool → View Value) (q : ℕ) (t : Bool) (low : Key) (high : Option Key) (vs : List ℕ) where
-  walk-deep : (left : ℕ) → left ≡ 0 → walk N view left t q low high vs ≡ fault 9 q 0
+module _ (N : ℕ) (block : ℕ → List ℕ) (view : ℕ → Bool → View Value) (q : ℕ) (t : Bool) (low : Key) (high : Option Key) (vs : List ℕ) where
+  walk-deep : (left : ℕ) → left ≡ 0 → walk N block view left t q low high vs ≡ fault 9 q 0
   unfolding walk
   walk-deep left e = rw e
 
-  walk-out : (left : ℕ) → 0 < left → inside N q ≡ false → walk N view left t q low high vs ≡ fault 2 q 0
+  walk-out : (left : ℕ) → 0 < left → inside N q ≡ false → walk N block view left t q low high vs ≡ fault 2 q 0
   unfolding walk
   walk-out zero l e = absurd (omega arith)
   walk-out (suc d) l e = rw e
 
-  walk-twice : (left : ℕ) → 0 < left → inside N q ≡ true → memb q vs ≡ true → walk N view left t q low high vs ≡ fault 8 q 0
+  walk-twice : (left : ℕ) → 0 < left → inside N q ≡ true → (page : ℕ) → firstIn (block q) vs ≡ some page → walk N block view left t q low high vs ≡ fault 8 page 0
   unfolding walk
-  walk-twice zero l e m = absurd (omega arith)
-  walk-twice (suc d) l e m = rw (e, m)
+  walk-twice zero l e page m = absurd (omega arith)
+  walk-twice (suc d) l e page m = rw (e, m)
 
-  walks : (left : ℕ) → 0 < left → inside N q ≡ true → memb q vs ≡ false
-      → walk N view left t q low high vs ≡ walkPage (walk N view (left - 1) false) (view q t) q low high (q ∷ vs)
+  walks : (left : ℕ) → 0 < left → inside N q ≡ true → firstIn (block q) vs ≡ none
+      → walk N block view left t q low high vs ≡ walkPage (walk N block view (left - 1) false) (view q t) q low high (block q ++ vs)
   unfolding walk
   walks zero l e m = absurd (omega arith)
   walks (suc d) l e m = let k : suc d - 1 ≡ d = omega arith in rw (e, m, k)
 
-  module _ (left : ℕ) (spare : 0 < left) (within : inside N q ≡ true) (fresh : memb q vs ≡ false) where
-    walk-breach : (r i : ℕ) → judgePageOf (view q t) low high ≡ Breach r i → walk N view left t q low high vs ≡ fault r q i
+  module _ (left : ℕ) (spare : 0 < left) (within : inside N q ≡ true) (fresh : firstIn (block q) vs ≡ none) where
+    walk-breach : (r p i : ℕ) → judgePageOf (view q t) q low high ≡ Breach r p i → walk N block view left t q low high vs ≡ fault r p i
     unfolding walkPage judgePageOf
-    walk-breach r i e = walks left spare within fresh ∙ go (view q t) e
+    walk-breach r p i e = walks left spare within fresh ∙ go (view q t) e
       where
-        out : (o : Option ℕ) (p : Page) (v : Walk) → (p ≡ Breach r i → ⊥) → breachIfOut o p ≡ Breach r i → Rattle.walk.specs.Tree.unlessOut o q v ≡ fault r q i
-        out none p v n h = absurd (n h)
-        out (some j) p v n h = let a : 7 ≡ r = cc in let b : j ≡ i = cc in rw (← a, b)
+        out : (o : Option ℕ) (x : Page) (v : Walk) → (x ≡ Breach r p i → ⊥) → breachIfOut o q x ≡ Breach r p i → Rattle.walk.specs.Tree.unlessOut o q v ≡ fault r p i
+        out none x v n h = absurd (n h)
+        out (some j) x v n h = let a : 7 ≡ r = cc in let b : q ≡ p = cc in let c : j ≡ i = cc in rw (← a, b, c)
 
-        go : (v : View Value) → judgePageOf v low high ≡ Breach r i → walkPage (walk N view (left - 1) false) v q low high (q ∷ vs) ≡ fault r q i
-        go (bad s x) h = let a : s ≡ r = cc in let b : x ≡ i = cc in rw (a, b)
+        go : (v : View Value) → judgePageOf v q low high ≡ Breach r p i → walkPage (walk N block view (left - 1) false) v q low high (block q ++ vs) ≡ fault r p i
+        go (bad s x) h = let a : s ≡ r = cc in let b : q ≡ p = cc in let c : x ≡ i = cc in rw (a, b, c)
         go (branch cs) h = out (firstOut low high (keys cs) 0) (Branch (length cs)) _ (λ g. let z : _≡_ {A = ℕ} 0 1 = cc in omega arith) h
         go (leaf es) h = out (firstOut low high (keys es) 0) (Leaf (length es)) _ (λ g. let z : _≡_ {A = ℕ} 0 1 = cc in omega arith) h
 
-    walk-leaf : (n : ℕ) → judgePageOf (view q t) low high ≡ Leaf n → walk N view left t q low high vs ≡ pass n (q ∷ vs)
+    walk-leaf : (n : ℕ) → judgePageOf (view q t) q low high ≡ Leaf n → walk N block view left t q low high vs ≡ pass n (block q ++ vs)
     unfolding walkPage judgePageOf
     walk-leaf n e = walks left spare within fresh ∙ go (view q t) e
       where
-        none-out : (o : Option ℕ) (p : Page) → breachIfOut o p ≡ Leaf n → (o ≡ none) × (p ≡ Leaf n)
+        none-out : (o : Option ℕ) (p : Page) → breachIfOut o q p ≡ Leaf n → (o ≡ none) × (p ≡ Leaf n)
         none-out none p h = (refl, h)
         none-out (some j) p h = absurd (let z : _≡_ {A = ℕ} 0 1 = cc in omega arith)
 
-        go : (v : View Value) → judgePageOf v low high ≡ Leaf n → walkPage (walk N view (left - 1) false) v q low high (q ∷ vs) ≡ pass n (q ∷ vs)
+        go : (v : View Value) → judgePageOf v q low high ≡ Leaf n → walkPage (walk N block view (left - 1) false) v q low high (block q ++ vs) ≡ pass n (block q ++ vs)
         go (bad s x) h = absurd (let z : _≡_ {A = ℕ} 0 1 = cc in omega arith)
         go (branch cs) h = absurd (let o = none-out (firstOut low high (keys cs) 0) (Branch (length cs)) h .1 in let z : _≡_ {A = ℕ} 0 1 = cc in omega arith)
         go (leaf es) h =
@@ -116,139 +76,120 @@ module _ (N : ℕ) (view : ℕ → Bool → View Value) (q : ℕ) (t : Bool) (lo
             let l : length es ≡ n = (let u = o .1 in cc) in
             rw (o .0, l)
 
-    walk-branch : (n : ℕ) (cs : List (Item ℕ)) → view q t ≡ branch cs → judgePageOf (view q t) low high ≡ Branch n
-        → walk N view left t q low high vs ≡ walkAll (walk N view (left - 1) false) cs high 0 (q ∷ vs)
+    walk-branch : (n : ℕ) (cs : List (Item ℕ)) → view q t ≡ branch cs → judgePageOf (view q t) q low high ≡ Branch n
+        → walk N block view left t q low high vs ≡ walkAll (walk N block view (left - 1) false) cs high 0 (block q ++ vs)
     unfolding walkPage judgePageOf
     walk-branch n cs f e =
         let o = none-out (firstOut low high (keys cs) 0) (Branch (length cs)) (rw f at e) in
         walks left spare within fresh ∙ rw (f, o)
       where
-        none-out : (o : Option ℕ) (p : Page) → breachIfOut o p ≡ Branch n → o ≡ none
+        none-out : (o : Option ℕ) (p : Page) → breachIfOut o q p ≡ Branch n → o ≡ none
         none-out none p h = refl
         none-out (some j) p h = absurd (let z : _≡_ {A = ℕ} 0 1 = cc in omega arith)
 
 -- ---- a page that the walk meets
-abbrev pub NoBreach : Page → Type 0
-NoBreach (Breach r i) = ⊥
-NoBreach (Branch n) = Unit
-NoBreach (Leaf n) = Unit
-
-module _ (N : ℕ) (view : ℕ → Bool → View Value) (left : ℕ) (t : Bool) (q : ℕ) (low : Key) (high : Option Key) where
+module _ (N : ℕ) (block : ℕ → List ℕ) (view : ℕ → Bool → View Value) (left : ℕ) (t : Bool) (q : ℕ) (low : Key) (high : Option Key) (vs : List ℕ) where
   -- rule by rule
-  module _ (before : Bool) where
-    pub meet-deep : left ≡ 0 → metOf N view left t q low high before ≡ Breach 9 0
-    unfolding metOf
-    meet-deep e = rw e
-
-    met-at : 0 < left → metOf N view left t q low high before ≡ cond (inside N q) (cond before (Breach 8 0) (judgePageOf (view q t) low high)) (Breach 2 0)
-    unfolding metOf
-    met-at l = go left l
-      where
-        go : (d : ℕ) → 0 < d → metOf N view d t q low high before ≡ cond (inside N q) (cond before (Breach 8 0) (judgePageOf (view q t) low high)) (Breach 2 0)
-        go zero h = absurd (omega arith)
-        go (suc d) h = refl
-
-    pub meet-out : 0 < left → inside N q ≡ false → metOf N view left t q low high before ≡ Breach 2 0
-    meet-out l i = met-at l ∙ rw i
-
-    pub meet-twice : 0 < left → inside N q ≡ true → before ≡ true → metOf N view left t q low high before ≡ Breach 8 0
-    meet-twice l i b = met-at l ∙ rw (i, b)
-
-    pub meet-page : 0 < left → inside N q ≡ true → before ≡ false → metOf N view left t q low high before ≡ judgePageOf (view q t) low high
-    meet-page l i b = met-at l ∙ rw (i, b)
-
-  -- whether it was reached before matters only inside the image
-  pub met-same : (a b : Bool) → (inside N q ≡ true → a ≡ b) → metOf N view left t q low high a ≡ metOf N view left t q low high b
+  pub meet-deep : left ≡ 0 → metOf N block view left t q low high vs ≡ Breach 9 q 0
   unfolding metOf
-  met-same a b h = levels left
-    where
-      within : (i : Bool) → inside N q ≡ i
-          → cond i (cond a (Breach 8 0) (judgePageOf (view q t) low high)) (Breach 2 0) ≡ cond i (cond b (Breach 8 0) (judgePageOf (view q t) low high)) (Breach 2 0)
-      within true e = rw (h e)
-      within false e = refl
+  meet-deep e = rw e
 
-      levels : (left : ℕ) → metOf N view left t q low high a ≡ metOf N view left t q low high b
-      levels zero = refl
-      levels (suc d) = within (inside N q) refl
+  met-at : 0 < left → metOf N block view left t q low high vs ≡ cond (inside N q) (breachIfTwice (firstIn (block q) vs) (judgePageOf (view q t) q low high)) (Breach 2 q 0)
+  unfolding metOf
+  met-at l = go left l
+    where
+      go : (d : ℕ) → 0 < d → metOf N block view d t q low high vs ≡ cond (inside N q) (breachIfTwice (firstIn (block q) vs) (judgePageOf (view q t) q low high)) (Breach 2 q 0)
+      go zero h = absurd (omega arith)
+      go (suc d) h = refl
+
+  pub meet-out : 0 < left → inside N q ≡ false → metOf N block view left t q low high vs ≡ Breach 2 q 0
+  meet-out l i = met-at l ∙ rw i
+
+  pub meet-twice : 0 < left → inside N q ≡ true → (page : ℕ) → firstIn (block q) vs ≡ some page → metOf N block view left t q low high vs ≡ Breach 8 page 0
+  meet-twice l i page f = met-at l ∙ rw (i, f)
+
+  pub meet-page : 0 < left → inside N q ≡ true → firstIn (block q) vs ≡ none → metOf N block view left t q low high vs ≡ judgePageOf (view q t) q low high
+  meet-page l i f = met-at l ∙ rw (i, f)
 
   -- a verdict that is no breach is the page's own
-  pub met-own : (before : Bool) (x : Page) → NoBreach x → metOf N view left t q low high before ≡ x
-      → (0 < left) × (inside N q ≡ true) × (before ≡ false) × (judgePageOf (view q t) low high ≡ x)
+  pub met-own : (x : Page) → NoBreach x → metOf N block view left t q low high vs ≡ x
+      → (0 < left) × (inside N q ≡ true) × (firstIn (block q) vs ≡ none) × (judgePageOf (view q t) q low high ≡ x)
   unfolding metOf
-  met-own before x n e = levels left e
+  met-own x n e = levels left e
     where
-      breached : {A : Type 0} (r i : ℕ) → Breach r i ≡ x → A
-      breached r i e = absurd (subst NoBreach (sym e) n)
+      breached : {A : Type 0} (r p i : ℕ) → Breach r p i ≡ x → A
+      breached r p i e = absurd (subst NoBreach (sym e) n)
 
-      met : (b : Bool) → before ≡ b → cond b (Breach 8 0) (judgePageOf (view q t) low high) ≡ x → (before ≡ false) × (judgePageOf (view q t) low high ≡ x)
-      met true f e = breached 8 0 e
-      met false f e = (f, e)
+      met : (o : Option ℕ) → firstIn (block q) vs ≡ o → breachIfTwice o (judgePageOf (view q t) q low high) ≡ x
+          → (firstIn (block q) vs ≡ none) × (judgePageOf (view q t) q low high ≡ x)
+      met (some page) f e = breached 8 page 0 e
+      met none f e = (f, e)
 
-      within : (i : Bool) → inside N q ≡ i → cond i (cond before (Breach 8 0) (judgePageOf (view q t) low high)) (Breach 2 0) ≡ x
-          → (inside N q ≡ true) × (before ≡ false) × (judgePageOf (view q t) low high ≡ x)
-      within true f e = let m = met before refl e in (f, m .0, m .1)
-      within false f e = breached 2 0 e
+      within : (i : Bool) → inside N q ≡ i → cond i (breachIfTwice (firstIn (block q) vs) (judgePageOf (view q t) q low high)) (Breach 2 q 0) ≡ x
+          → (inside N q ≡ true) × (firstIn (block q) vs ≡ none) × (judgePageOf (view q t) q low high ≡ x)
+      within true f e = let m = met (firstIn (block q) vs) refl e in (f, m .0, m .1)
+      within false f e = breached 2 q 0 e
 
-      levels : (d : ℕ) → metOf N view d t q low high before ≡ x → (0 < d) × (inside N q ≡ true) × (before ≡ false) × (judgePageOf (view q t) low high ≡ x)
-      levels zero e = breached 9 0 e
+      levels : (d : ℕ) → metOf N block view d t q low high vs ≡ x → (0 < d) × (inside N q ≡ true) × (firstIn (block q) vs ≡ none) × (judgePageOf (view q t) q low high ≡ x)
+      levels zero e = breached 9 q 0 e
       levels (suc d) e = let w = within (inside N q) refl e in (omega arith, w .0, w .1, w .2)
 
-  module _ (vs : List ℕ) where
-    pub met-breach : (r i : ℕ) → metOf N view left t q low high (memb q vs) ≡ Breach r i → walk N view left t q low high vs ≡ fault r q i
-    unfolding metOf
-    met-breach r i e = levels left refl e
-      where
-        same : (k j : ℕ) → Breach k j ≡ Breach r i → fault k q j ≡ fault r q i
-        same k j e = let a : k ≡ r = cc in let b : j ≡ i = cc in rw (a, b)
+  -- and what the walk says then
+  pub met-breach : (r p i : ℕ) → metOf N block view left t q low high vs ≡ Breach r p i → walk N block view left t q low high vs ≡ fault r p i
+  unfolding metOf
+  met-breach r p i e = levels left refl e
+    where
+      same : (k g j : ℕ) → Breach k g j ≡ Breach r p i → fault k g j ≡ fault r p i
+      same k g j e = let a : k ≡ r = cc in let b : g ≡ p = cc in let c : j ≡ i = cc in rw (a, b, c)
 
-        met : 0 < left → inside N q ≡ true → (b : Bool) → memb q vs ≡ b → cond b (Breach 8 0) (judgePageOf (view q t) low high) ≡ Breach r i
-            → walk N view left t q low high vs ≡ fault r q i
-        met l w true f e = walk-twice N view q t low high vs left l w f ∙ same 8 0 e
-        met l w false f e = walk-breach N view q t low high vs left l w f r i e
+      met : 0 < left → inside N q ≡ true → (o : Option ℕ) → firstIn (block q) vs ≡ o → breachIfTwice o (judgePageOf (view q t) q low high) ≡ Breach r p i
+          → walk N block view left t q low high vs ≡ fault r p i
+      met l w (some page) f e = walk-twice N block view q t low high vs left l w page f ∙ same 8 page 0 e
+      met l w none f e = walk-breach N block view q t low high vs left l w f r p i e
 
-        within : 0 < left → (b : Bool) → inside N q ≡ b → cond b (cond (memb q vs) (Breach 8 0) (judgePageOf (view q t) low high)) (Breach 2 0) ≡ Breach r i
-            → walk N view left t q low high vs ≡ fault r q i
-        within l true f e = met l f (memb q vs) refl e
-        within l false f e = walk-out N view q t low high vs left l f ∙ same 2 0 e
+      within : 0 < left → (b : Bool) → inside N q ≡ b → cond b (breachIfTwice (firstIn (block q) vs) (judgePageOf (view q t) q low high)) (Breach 2 q 0) ≡ Breach r p i
+          → walk N block view left t q low high vs ≡ fault r p i
+      within l true f e = met l f (firstIn (block q) vs) refl e
+      within l false f e = walk-out N block view q t low high vs left l f ∙ same 2 q 0 e
 
-        levels : (d : ℕ) → left ≡ d → metOf N view d t q low high (memb q vs) ≡ Breach r i → walk N view left t q low high vs ≡ fault r q i
-        levels zero f e = walk-deep N view q t low high vs left f ∙ same 9 0 e
-        levels (suc d) f e = within (omega arith) (inside N q) refl e
+      levels : (d : ℕ) → left ≡ d → metOf N block view d t q low high vs ≡ Breach r p i → walk N block view left t q low high vs ≡ fault r p i
+      levels zero f e = walk-deep N block view q t low high vs left f ∙ same 9 q 0 e
+      levels (suc d) f e = within (omega arith) (inside N q) refl e
 
-    pub met-leaf : (n : ℕ) → metOf N view left t q low high (memb q vs) ≡ Leaf n → walk N view left t q low high vs ≡ pass n (q ∷ vs)
-    met-leaf n e =
-        let m = met-own (memb q vs) (Leaf n) tt e in
-        walk-leaf N view q t low high vs left (m .0) (m .1) (m .2) n (m .3)
+  pub met-leaf : (n : ℕ) → metOf N block view left t q low high vs ≡ Leaf n → walk N block view left t q low high vs ≡ pass n (block q ++ vs)
+  met-leaf n e =
+      let m = met-own (Leaf n) tt e in
+      walk-leaf N block view q t low high vs left (m .0) (m .1) (m .2) n (m .3)
 
-    pub met-branch : (n : ℕ) (cs : List (Item ℕ)) → view q t ≡ branch cs → metOf N view left t q low high (memb q vs) ≡ Branch n
-        → walk N view left t q low high vs ≡ walkAll (walk N view (left - 1) false) cs high 0 (q ∷ vs)
-    met-branch n cs f e =
-        let m = met-own (memb q vs) (Branch n) tt e in
-        walk-branch N view q t low high vs left (m .0) (m .1) (m .2) n cs f (m .3)
+  pub met-branch : (n : ℕ) (cs : List (Item ℕ)) → view q t ≡ branch cs → metOf N block view left t q low high vs ≡ Branch n
+      → walk N block view left t q low high vs ≡ walkAll (walk N block view (left - 1) false) cs high 0 (block q ++ vs)
+  met-branch n cs f e =
+      let m = met-own (Branch n) tt e in
+      walk-branch N block view q t low high vs left (m .0) (m .1) (m .2) n cs f (m .3)
 
 -- a page that is a branch, by its verdict
-pub page-branch : (v : View Value) (low : Key) (high : Option Key) (n : ℕ) → judgePageOf v low high ≡ Branch n → (cs : List (Item ℕ)) × (v ≡ branch cs) × (length cs ≡ n)
+pub page-branch : (v : View Value) (q : ℕ) (low : Key) (high : Option Key) (n : ℕ) → judgePageOf v q low high ≡ Branch n → (cs : List (Item ℕ)) × (v ≡ branch cs) × (length cs ≡ n)
 unfolding judgePageOf
-page-branch v low high n = go v
+page-branch v q low high n = go v
   where
-    branched : (o : Option ℕ) (p : Page) → breachIfOut o p ≡ Branch n → p ≡ Branch n
+    branched : (o : Option ℕ) (p : Page) → breachIfOut o q p ≡ Branch n → p ≡ Branch n
     branched none p h = h
     branched (some j) p h = absurd (let z : _≡_ {A = ℕ} 0 1 = cc in omega arith)
 
-    go : (v : View Value) → judgePageOf v low high ≡ Branch n → (cs : List (Item ℕ)) × (v ≡ branch cs) × (length cs ≡ n)
+    go : (v : View Value) → judgePageOf v q low high ≡ Branch n → (cs : List (Item ℕ)) × (v ≡ branch cs) × (length cs ≡ n)
     go (bad s x) h = absurd (let z : _≡_ {A = ℕ} 0 1 = cc in omega arith)
     go (branch cs) h = let u = branched (firstOut low high (keys cs) 0) (Branch (length cs)) h in (cs, refl, cc)
     go (leaf es) h = absurd (let u = branched (firstOut low high (keys es) 0) (Leaf (length es)) h in let z : _≡_ {A = ℕ} 0 1 = cc in omega arith)
 
-pub page-leaf : (v : View Value) (low : Key) (high : Option Key) (n : ℕ) → judgePageOf v low high ≡ Leaf n → (es : List (Item Value)) × (v ≡ leaf es) × (length es ≡ n)
+pub page-leaf : (v : View Value) (q : ℕ) (low : Key) (high : Option Key) (n : ℕ) → judgePageOf v q low high ≡ Leaf n → (es : List (Item Value)) × (v ≡ leaf es) × (length es ≡ n)
 unfolding judgePageOf
-page-leaf v low high n = go v
+page-leaf v q low high n = go v
   where
-    leafed : (o : Option ℕ) (p : Page) → breachIfOut o p ≡ Leaf n → p ≡ Leaf n
+    leafed : (o : Option ℕ) (p : Page) → breachIfOut o q p ≡ Leaf n → p ≡ Leaf n
     leafed none p h = h
     leafed (some j) p h = absurd (let z : _≡_ {A = ℕ} 0 1 = cc in omega arith)
 
-    go : (v : View Value) → judgePageOf v low high ≡ Leaf n → (es : List (Item Value)) × (v ≡ leaf es) × (length es ≡ n)
+    go : (v : View Value) → judgePageOf v q low high ≡ Leaf n → (es : List (Item Value)) × (v ≡ leaf es) × (length es ≡ n)
     go (bad s x) h = absurd (let z : _≡_ {A = ℕ} 0 1 = cc in omega arith)
     go (branch cs) h = absurd (let u = leafed (firstOut low high (keys cs) 0) (Branch (length cs)) h in let z : _≡_ {A = ℕ} 0 1 = cc in omega arith)
     go (leaf es) h = let u = leafed (firstOut low high (keys es) 0) (Leaf (length es)) h in (es, refl, cc)

@@ -9,14 +9,14 @@ use lib.ListN.{length, drop}
 use Rattle.field.specs.Marks.{isMarked, count}
 use Rattle.page.specs.Layout.{keyOf, countOf, overflowOf}
 use Rattle.page.specs.PageRules.{blockOf, SoundBlock}
-use Rattle.walk.specs.Tree.{Key, View, bad, branch, leaf, keys, inRange, memb, inside, firstOut, pass, fault, walkAll, walk, Verdict as Walk}
+use Rattle.walk.specs.Tree.{Key, View, bad, branch, leaf, keys, inRange, memb, inside, firstIn, firstOut, pass, fault, walkAll, walk, Verdict as Walk}
 use Rattle.view.specs.declared.Value.{Value}
 use Rattle.judge.specs.declared.range.Page.{Page}
 use Rattle.judge.specs.declared.range.Page.the-variants.{Branch, Leaf, Breach}
 use Rattle.judge.specs.declared.Walked.{Walked}
 use Rattle.judge.specs.declared.Outcome.the-variants.{Passed, Broken}
 use Rattle.view.specs.Fault.{faultAt}
-use Rattle.view.specs.View.{row, childItem, viewOf}
+use Rattle.view.specs.View.{row, childItem, viewOf, pagesOf}
 
 -- the upper end of a range, which may be missing
 abbrev pub upperOf : Bool → Key → Option Key
@@ -27,21 +27,33 @@ upperOf false high = none
 abbrev pub keyOut : Bool → List ℕ → Key → Option Key → ℕ → Bool
 keyOut isLeaf b low high i = not (inRange low high (keyOf isLeaf b i))
 
--- rule 8, of a page that keeps the rules before it
-abbrev pub breachIfOut : Option ℕ → Page → Page
-breachIfOut none v = v
-breachIfOut (some i) v = Breach 7 i
+-- rule 8, of page q, which keeps the rules before it
+abbrev pub breachIfOut : Option ℕ → ℕ → Page → Page
+breachIfOut none q v = v
+breachIfOut (some i) q v = Breach 7 q i
 
--- a page's own verdict: the number of its children or entries
-unfoldable pub judgePageOf : View Value → Key → Option Key → Page
-judgePageOf (bad number element) low high = Breach number element
-judgePageOf (branch cs) low high = breachIfOut (firstOut low high (keys cs) 0) (Branch (length cs))
-judgePageOf (leaf es) low high = breachIfOut (firstOut low high (keys es) 0) (Leaf (length es))
+-- page q's own verdict: the number of its children or entries
+unfoldable pub judgePageOf : View Value → ℕ → Key → Option Key → Page
+judgePageOf (bad number element) q low high = Breach number q element
+judgePageOf (branch cs) q low high = breachIfOut (firstOut low high (keys cs) 0) q (Branch (length cs))
+judgePageOf (leaf es) q low high = breachIfOut (firstOut low high (keys es) 0) q (Leaf (length es))
 
--- the verdict on a page that the walk meets with `left` levels to spend, reached before or not: rules 1 to 3 come before its own
-unfoldable pub metOf : ℕ → (ℕ → Bool → View Value) → ℕ → Bool → ℕ → Key → Option Key → Bool → Page
-metOf N view zero top q low high before = Breach 9 0
-metOf N view (suc d) top q low high before = cond (inside N q) (cond before (Breach 8 0) (judgePageOf (view q top) low high)) (Breach 2 0)
+-- rule 3, of a block's pages: the lowest that was visited before is named
+abbrev pub breachIfTwice : Option ℕ → Page → Page
+breachIfTwice none v = v
+breachIfTwice (some page) v = Breach 8 page 0
+
+-- the verdict on a page that the walk meets with `left` levels to spend, after the pages vs: rules 1, 2 and 3 come before its own;
+-- a page that rule 4 refuses has no block
+unfoldable pub metOf : ℕ → (ℕ → List ℕ) → (ℕ → Bool → View Value) → ℕ → Bool → ℕ → Key → Option Key → List ℕ → Page
+metOf N block view zero top q low high vs = Breach 9 q 0
+metOf N block view (suc d) top q low high vs =
+    cond (inside N q) (breachIfTwice (firstIn (block q) vs) (judgePageOf (view q top) q low high)) (Breach 2 q 0)
+
+abbrev pub NoBreach : Page → Type 0
+NoBreach (Breach number page element) = ⊥
+NoBreach (Branch n) = Unit
+NoBreach (Leaf n) = Unit
 
 -- page q is a branch of c children, whose block lies within N pages and keeps the rules
 pub record Branching (image : List ℕ) (P N q c : ℕ) : Type 0 where
@@ -51,7 +63,7 @@ pub record Branching (image : List ℕ) (P N q c : ℕ) : Type 0 where
 
 -- the walk of its children, with `left` levels to spend
 abbrev pub childrenOf : List ℕ → ℕ → ℕ → ℕ → ℕ → ℕ → Option Key → List ℕ → Walk
-childrenOf image P N left q c high vs = walkAll (walk N (viewOf image P N) left false) (row (childItem (blockOf image P q)) c 0) high 0 vs
+childrenOf image P N left q c high vs = walkAll (walk N (pagesOf image P N) (viewOf image P N) left false) (row (childItem (blockOf image P q)) c 0) high 0 vs
 
 -- the words mark exactly these pages, each once
 pub record Marks (m vs : List ℕ) : Type 0 where

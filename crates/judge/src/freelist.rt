@@ -1,19 +1,19 @@
 // The freelist page, after the tree.
 ghost use mathlib.Core.Path.{_≡_};
 ghost use mathlib.Core.Bool.{false};
-ghost use mathlib.Core.List.{List, _∷_};
+ghost use mathlib.Core.List.{List};
 ghost use Prim.Native.Nat.{ℕ, _+_, _-_, _*_, _≤_, _<_};
 ghost use lib.ListN.{length};
 ghost use Rattle.page.specs.Layout.{countOf};
 ghost use Rattle.page.specs.PageRules.{firstBad};
 ghost use Rattle.view.specs.Geometry.{SoundSizes};
 ghost use Rattle.view.specs.Fault.{faultAt};
-ghost use Rattle.judge.specs.Judge.{freeHeaderBad, idAt, idOutside, idNotAbove, idMarked, idsOf, freelistOf, judgedOf};
+ghost use Rattle.judge.specs.Judge.{freeHeaderBad, idAt, idOutside, idNotAbove, idMarked, idsOf, freelistOf};
 ghost use Rattle.judge.specs.Walk.{Marks};
 use super::Judged;
+use super::pages::take_pages;
 use field::marks::count_marks;
 use field::marks::is_marked;
-use field::marks::with_mark;
 use field::number::u64_at;
 use page::Verdict;
 use page::layout::count;
@@ -124,7 +124,7 @@ pub fn refused(number: u64, page: usize, element: usize) -> Judged
     })
 }
 
-// The judge's answer after a tree of so many leaf entries, whose pages are marked.
+// The judge's answer after a tree of so many leaf entries, the pages of whose blocks are marked.
 pub fn after_tree(
     image: &[u8],
     p: usize,
@@ -134,23 +134,22 @@ pub fn after_tree(
     marks: [u64; 512],
 ) -> Judged
     requires { ⌜ SoundSizes (now image) p n ⌝ }
-    ensures { λ r. ⌜ ((vs : List ℕ) → Marks marks vs → r ≡ judgedOf (freelistOf (now (image .entry)) p n f vs) f entries (length (f ∷ vs))) ⌝ }
+    ensures { λ r. ⌜ ((vs : List ℕ) → Marks marks vs → r ≡ freelistOf (now (image .entry)) p n f entries vs) ⌝ }
 {
     if !inside(n, f) {
         return refused(2, f, 0);
     }
-    let at = f / 64;
-    let word = marks[at];
-    if is_marked(word, f as u64) {
-        return refused(8, f, 0);
-    }
-    if free_header_bad(from_page(image, p, n, f), n, f) {
+    let s = from_page(image, p, n, f);
+    if free_header_bad(s, n, f) {
         return refused(3, f, 0);
     }
-    let b = block(image, p, n, f);
+    let end = f + overflow(s) + 1;
     let mut marked = marks;
-    marked[at] = with_mark(word, f as u64);
-    match check_ids(b, n, marked) {
+    let twice = take_pages(&mut marked, f, end);
+    if twice < end {
+        return refused(8, twice, 0);
+    }
+    match check_ids(block(image, p, n, f), n, marked) {
         Verdict::Breach(number, i) => refused(number, f, i),
         Verdict::Sound => Judged::Sound(entries, count_marks(marked) as usize),
     }

@@ -1,37 +1,41 @@
 // The judge: the walk of a tree, then the freelist page.
 mod freelist;
+mod pages;
 mod range;
 
 ghost use mathlib.Core.Path.{_≡_};
 ghost use mathlib.Core.Bool.{false, cond, _||_};
-ghost use mathlib.Core.List.{List, [], _∷_};
+ghost use mathlib.Core.List.{List, _++_};
 ghost use mathlib.Core.Option.{none};
 ghost use Prim.Native.Nat.{ℕ, _+_, _*_, _≤_, _<_};
 ghost use lib.Dec.{ltb};
-ghost use Rattle.field.specs.Marks.{markedIn, withMark, noMarks, count as countMarked};
+ghost use lib.ListN.{length};
+ghost use Rattle.field.specs.Marks.{count as countMarked};
 ghost use Rattle.page.specs.Layout.{keyOf, countOf};
 ghost use Rattle.page.specs.PageRules.{SoundBlock};
 ghost use Rattle.view.specs.Geometry.{SoundSizes};
-ghost use Rattle.view.specs.View.{viewOf};
+ghost use Rattle.view.specs.View.{viewOf, pagesOf};
 ghost use Rattle.view.specs.Fault.{faultAt};
 ghost use Rattle.judge.specs.Judge.{judgeOf, afterTree};
-ghost use Rattle.judge.specs.Walk.{upperOf, metOf, Branching, childrenOf, Marks, Says};
-use field::marks::is_marked;
+ghost use Rattle.judge.specs.Walk.{upperOf, metOf, NoBreach, Branching, childrenOf, Marks, Says};
 use field::marks::no_marks;
-use field::marks::with_mark;
 use freelist::after_tree;
 use freelist::refused;
 use page::layout::child;
 use page::layout::key;
+use page::layout::overflow;
+use page::rules::header_bad;
+use pages::take_pages;
 use range::Page;
 use range::judge_page;
 use view::Fault;
 use view::LEVELS;
 use view::image::block;
+use view::image::from_page;
 use view::image::geometry_bad;
 use view::image::inside;
 
-// What the judge answers: the leaf entries and the blocks reached, or the first breach.
+// What the judge answers: the leaf entries and the pages reached, or the first breach.
 pub enum Judged {
     Sound(usize, usize),
     Refused(Fault),
@@ -97,7 +101,7 @@ fn has_upper(i: usize, c: usize, bounded: bool) -> bool
     bounded
 }
 
-// The verdict on page `q` when the walk meets it with `left` levels to spend: rules 1 to 8, by the word that its mark stands in.
+// The verdict on page `q` when the walk meets it with `left` levels to spend: rules 1, 2, 4, 3 and then 5 to 8. The pages of its block are marked from rule 3 on.
 fn meet(
     image: &[u8],
     p: usize,
@@ -108,19 +112,28 @@ fn meet(
     low: &[u8],
     high: &[u8],
     bounded: bool,
-    word: u64,
+    marks: &mut [u64],
 ) -> Page
-    requires { ⌜ SoundSizes (now image) p n ⌝ }
-    ensures { λ r. ⌜ r ≡ metOf n (viewOf (now (image .entry)) p n) left top q (now (low .entry)) (upperOf bounded (now (high .entry))) (markedIn word q) ⌝ }
+    requires { ⌜ SoundSizes (now image) p n × (length (now marks) ≡ 512) ⌝ }
+    ensures { λ r. ⌜ ((vs : List ℕ) → Marks (now (marks .entry)) vs
+        → (r ≡ metOf n (pagesOf (now (image .entry)) p n) (viewOf (now (image .entry)) p n) left top q (now (low .entry)) (upperOf bounded (now (high .entry))) vs)
+        × (NoBreach r → Marks (now (marks .exit)) (pagesOf (now (image .entry)) p n q ++ vs))) ⌝ }
+    ensures { λ r. ⌜ (length (now (marks .exit)) ≡ 512) × (NoBreach r → countMarked (now (marks .entry)) < countMarked (now (marks .exit))) ⌝ }
 {
     if left == 0 {
-        return Page::Breach(9, 0);
+        return Page::Breach(9, q, 0);
     }
     if !inside(n, q) {
-        return Page::Breach(2, 0);
+        return Page::Breach(2, q, 0);
     }
-    if is_marked(word, q as u64) {
-        return Page::Breach(8, 0);
+    let s = from_page(image, p, n, q);
+    if header_bad(s, n, q) {
+        return Page::Breach(3, q, 0);
+    }
+    let end = q + overflow(s) + 1;
+    let twice = take_pages(marks, q, end);
+    if twice < end {
+        return Page::Breach(8, twice, 0);
     }
     judge_page(image, p, n, q, top, low, high, bounded)
 }
@@ -149,14 +162,10 @@ fn walk<'a>(
         let k = child(b, i);
         let end = upper(b, i, c, high);
         let ends = has_upper(i, c, bounded);
-        let at = k / 64 % 512;
-        let word = seen[at];
         let low = key(b, false, i);
-        let met = meet(image, p, n, left, false, k, low, end, ends, word);
-        seen[at] = with_mark(word, k as u64);
-        match met {
-            Page::Breach(number, j) => {
-                return broken(seen, number, k, j);
+        match meet(image, p, n, left, false, k, low, end, ends, &mut seen) {
+            Page::Breach(number, page, j) => {
+                return broken(seen, number, page, j);
             }
             Page::Leaf(m) => {
                 entries += m;
@@ -182,32 +191,30 @@ fn walk<'a>(
     passed(seen, entries)
 }
 
-// The set with one page in it.
-fn only(q: usize) -> [u64; 512]
-    requires { ⌜ q < 32768 ⌝ }
-    ensures { λ r. ⌜ r ≡ withMark noMarks q ⌝ }
-{
-    let mut marks = no_marks();
-    marks[q / 64] = with_mark(0, q as u64);
-    marks
-}
-
-// The judge's answer where the root is a branch with `c` children.
-fn judge_branch(image: &[u8], p: usize, n: usize, root: usize, c: usize, f: usize) -> Judged
+// The judge's answer where the root is a branch with `c` children, after the pages marked by now.
+fn judge_branch(
+    image: &[u8],
+    p: usize,
+    n: usize,
+    root: usize,
+    c: usize,
+    f: usize,
+    marks: [u64; 512],
+) -> Judged
     requires { ⌜ SoundSizes (now image) p n × (root < n) × Branching (now image) p n root c ⌝ }
-    ensures { λ r. ⌜ r ≡ afterTree (now (image .entry)) p n f (childrenOf (now (image .entry)) p n 15 root c none (root ∷ [])) ⌝ }
+    ensures { λ r. ⌜ ((vs : List ℕ) → Marks marks vs → r ≡ afterTree (now (image .entry)) p n f (childrenOf (now (image .entry)) p n 15 root c none vs)) ⌝ }
 {
     let none = &image[0..0];
-    let w = walk(image, p, n, LEVELS - 1, root, c, none, false, only(root));
-    let marks = w.marks;
+    let w = walk(image, p, n, LEVELS - 1, root, c, none, false, marks);
+    let seen = w.marks;
     let outcome = w.outcome;
     match outcome {
         Outcome::Broken(fault) => Judged::Refused(fault),
-        Outcome::Passed(entries) => after_tree(image, p, n, f, entries, marks),
+        Outcome::Passed(entries) => after_tree(image, p, n, f, entries, seen),
     }
 }
 
-// The judge of an image: the counts of leaf entries and blocks reached, or the first breach in 01's order.
+// The judge of an image: the counts of leaf entries and pages reached, or the first breach in 01's order.
 pub fn judge(image: &[u8], p: usize, n: usize, root: usize, f: usize) -> Judged
     ensures { λ r. ⌜ r ≡ judgeOf (now (image .entry)) p n root f ⌝ }
 {
@@ -215,9 +222,10 @@ pub fn judge(image: &[u8], p: usize, n: usize, root: usize, f: usize) -> Judged
         return refused(1, 0, 0);
     }
     let low = &image[0..0];
-    match meet(image, p, n, LEVELS, true, root, low, low, false, 0) {
-        Page::Breach(number, i) => refused(number, root, i),
-        Page::Leaf(entries) => after_tree(image, p, n, f, entries, only(root)),
-        Page::Branch(c) => judge_branch(image, p, n, root, c, f),
+    let mut marks = no_marks();
+    match meet(image, p, n, LEVELS, true, root, low, low, false, &mut marks) {
+        Page::Breach(number, page, i) => refused(number, page, i),
+        Page::Leaf(entries) => after_tree(image, p, n, f, entries, marks),
+        Page::Branch(c) => judge_branch(image, p, n, root, c, f, marks),
     }
 }

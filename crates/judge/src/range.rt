@@ -1,10 +1,10 @@
 // Rule 8, and a page's own verdict in the judge's walk.
 ghost use mathlib.Core.Path.{_≡_};
 ghost use mathlib.Core.Bool.{true, false, not};
-ghost use Prim.Native.Nat.{_≤_, _<_};
-ghost use lib.ListN.{length};
+ghost use Prim.Native.Nat.{_*_, _≤_, _<_};
+ghost use lib.ListN.{length, drop};
 ghost use Rattle.page.specs.Layout.{countOf};
-ghost use Rattle.page.specs.PageRules.{andThen, firstBad, checkOf, SoundBlock};
+ghost use Rattle.page.specs.PageRules.{andThen, firstBad, headerBad, checkOf, SoundBlock};
 ghost use Rattle.walk.specs.Tree.{under, inRange};
 ghost use Rattle.view.specs.Geometry.{SoundSizes};
 ghost use Rattle.view.specs.View.{viewOf};
@@ -16,15 +16,13 @@ use page::layout::count;
 use page::layout::is_leaf;
 use page::layout::key;
 use page::rules::check;
-use page::rules::header_bad;
 use view::image::block;
-use view::image::from_page;
 
-// A page's own verdict: the number of a branch's children or of a leaf's entries, or a breach with its element.
+// The verdict on a page: the number of a branch's children or of a leaf's entries, or a breach with the page and element that it names.
 pub enum Page {
     Branch(usize),
     Leaf(usize),
-    Breach(u64, usize),
+    Breach(u64, usize, usize),
 }
 
 // Whether a key is not below the upper end of a range, where there is one.
@@ -97,7 +95,7 @@ fn judge_block(b: &[u8], leaf: bool, empty: bool, low: &[u8], high: &[u8], bound
     }
 }
 
-// The verdict on page `q`, as the root or not, with its range: rules 4 to 8.
+// The verdict on page `q`, whose header is sound, as the root or not, with its range: rules 5 to 8.
 pub fn judge_page(
     image: &[u8],
     p: usize,
@@ -108,21 +106,18 @@ pub fn judge_page(
     high: &[u8],
     bounded: bool,
 ) -> Page
-    requires { ⌜ SoundSizes (now image) p n × (q < n) ⌝ }
-    ensures { λ r. ⌜ r ≡ judgePageOf (viewOf (now (image .entry)) p n q top) (now (low .entry)) (upperOf bounded (now (high .entry))) ⌝ }
+    requires { ⌜ SoundSizes (now image) p n × (q < n) × (headerBad n q (drop (q * p) (now image)) ≡ false) ⌝ }
+    ensures { λ r. ⌜ r ≡ judgePageOf (viewOf (now (image .entry)) p n q top) q (now (low .entry)) (upperOf bounded (now (high .entry))) ⌝ }
 {
-    if header_bad(from_page(image, p, n, q), n, q) {
-        return Page::Breach(3, 0);
-    }
     let b = block(image, p, n, q);
     if is_leaf(b) {
         match judge_block(b, true, top, low, high, bounded) {
-            Verdict::Breach(number, i) => Page::Breach(number, i),
+            Verdict::Breach(number, i) => Page::Breach(number, q, i),
             Verdict::Sound => Page::Leaf(count(b)),
         }
     } else {
         match judge_block(b, false, false, low, high, bounded) {
-            Verdict::Breach(number, i) => Page::Breach(number, i),
+            Verdict::Breach(number, i) => Page::Breach(number, q, i),
             Verdict::Sound => Page::Branch(count(b)),
         }
     }

@@ -28,7 +28,7 @@ use Rattle.shard.specs.Answer.{lookedFields, judgedFields}
 use Rattle.shard.proofs.ZeroDone.{zero-told}
 
 judge-told : (j : Judged) (answer : List ℕ) → toldNumber (judgedFields j) answer ≡ 0 → judgedNumber j ≡ 0
-judge-told (judged.Sound entries blocks) answer e = refl
+judge-told (judged.Sound entries pages) answer e = refl
 judge-told (judged.Refused f) answer e = zero-told 4 (f .number) answer e
 
 look-told : (a : Looked) (room : List ℕ) → 48 ≤ length room → lookedNumber a ≡ 0 → toldNumber (lookedFields a) room ≡ 0

@@ -13,7 +13,7 @@ lookedFields (looked.Found v) = 0 ∷ 1 ∷ v .kind ∷ v .place ∷ v .length �
 lookedFields looked.Absent = 0 ∷ 0 ∷ 0 ∷ 0 ∷ 0 ∷ 0 ∷ 0 ∷ []
 lookedFields (looked.Refused f) = f .number ∷ 0 ∷ 0 ∷ 0 ∷ 0 ∷ f .page ∷ f .element ∷ []
 
--- the number; entries, blocks, page, element
+-- the number; entries, pages, page, element
 abbrev pub judgedFields : Judged → List ℕ
-judgedFields (judged.Sound entries blocks) = 0 ∷ entries ∷ blocks ∷ 0 ∷ 0 ∷ []
+judgedFields (judged.Sound entries pages) = 0 ∷ entries ∷ pages ∷ 0 ∷ 0 ∷ []
 judgedFields (judged.Refused f) = f .number ∷ 0 ∷ 0 ∷ f .page ∷ f .element ∷ []

@@ -43,7 +43,7 @@ pub extern "C" fn tyvarmos_lookup(
     }
 }
 
-// The number of the judge's answer, whose fields stand in `answer`: entries, blocks, page, element.
+// The number of the judge's answer, whose fields stand in `answer`: entries, pages, page, element.
 #[no_mangle]
 pub extern "C" fn tyvarmos_judge(
     image: &[u8],
@@ -57,8 +57,8 @@ pub extern "C" fn tyvarmos_judge(
         × (now (answer .exit) ≡ toldAnswer (judgedFields (judgeOf (now (image .entry)) p n root freelist)) (now (answer .entry))) ⌝ }
 {
     match judge(image, p, n, root, freelist) {
-        Judged::Sound(entries, blocks) => {
-            let values = [entries as u64, blocks as u64, 0, 0];
+        Judged::Sound(entries, pages) => {
+            let values = [entries as u64, pages as u64, 0, 0];
             give(answer, 0, &values)
         }
         Judged::Refused(f) => {

@@ -1,72 +1,70 @@
--- Theorem: what a judge that passes counts. `entries` is the number of leaf entries reached from the root, and `blocks` the number of pages
--- that are reached or are the freelist's.
+-- Theorem: what a judge that passes counts. `entries` is the number of leaf entries reached from the root (`entries-listed`, `entries-counted`), and
+-- `pages` the number of pages of the blocks reached and of the freelist's block (`pages-listed`, `pages-counted`).
 -- Assumes nothing.
-use mathlib.Core.Path.{_≡_, refl, sym}
-use mathlib.Core.Bool.{Bool, true, false, _||_}
-use mathlib.Core.List.{List, _∷_}
-use mathlib.Core.Logic.{_↔_, _⊎_, inl, inr}
-use Prim.Native.Nat.{ℕ}
+use mathlib.Core.Path.{_≡_, sym}
+use mathlib.Core.Bool.{true}
+use mathlib.Core.List.{List, _++_}
+use mathlib.Core.Logic.{_↔_, _⊎_, inl, inr, ⊎-elim}
+use Prim.Native.Nat.{ℕ, _+_, _*_}
 use native.Mathlib.Omega.{arith}
-use borrow.Author.Tests.{eq-eqb, eqb-true}
-use lib.Dec.{eqb}
-use lib.ListN.{length}
+use lib.ListN.{length, drop}
+use Rattle.page.specs.Layout.{overflowOf}
 use Rattle.walk.specs.Tree.{memb, Distinct}
-use Rattle.walk.proofs.Count.{no-longer}
 use Rattle.walk.specs.Listing.{Listing}
+use Rattle.walk.proofs.Pages.{memb-left, memb-right, memb-either, distinct-append}
+use Rattle.walk.proofs.Count.{no-longer}
 use Rattle.walk.proofs.Theorems as tree
-use Rattle.judge.specs.declared.Judged.the-variants.{Sound}
-use Rattle.view.specs.View.{viewOf}
-use Rattle.judge.specs.Judge.{judgeOf}
-use Rattle.tree.specs.Sound.{ReachedFrom}
+use Rattle.view.specs.View.{viewOf, pagesAt, pagesOf}
 use Rattle.view.proofs.ViewLaws.{checked}
-use Rattle.tree.proofs.PassesSound.{Passed, judge-passed, not-visited, listed-sound}
+use Rattle.view.proofs.PagesLaws.{pages-distinct, of-distinct}
+use Rattle.judge.specs.declared.Judged.the-variants.{Sound}
+use Rattle.judge.specs.Judge.{judgeOf}
+use Rattle.tree.specs.Sound.{InBlock, UsedFrom}
+use Rattle.tree.proofs.UsedPages.{block-iff}
+use Rattle.tree.proofs.PassesSound.{Passed, judge-passed, visited-iff}
 
-module _ (image : List ℕ) (P N root f entries blocks : ℕ) (passed : judgeOf image P N root f ≡ Sound entries blocks) where
-  p : Passed image P N root f entries blocks
-  p = judge-passed image P N root f entries blocks passed
+module _ (image : List ℕ) (P N root f entries pages : ℕ) (passed : judgeOf image P N root f ≡ Sound entries pages) where
+  p : Passed image P N root f entries pages
+  p = judge-passed image P N root f entries pages passed
 
   -- all leaf entries reached, in the order of their keys, each once: there are `entries` of them
   pub entries-listed : Listing (viewOf image P N) root entries
-  entries-listed = tree.listing N (viewOf image P N) (checked image P N) root entries (p .visited) (p .walked)
+  entries-listed = tree.listing N (pagesOf image P N) (viewOf image P N) (checked image P N) root entries (p .visited) (p .walked)
 
   -- and no listing has another number
   pub entries-counted : (m : ℕ) → Listing (viewOf image P N) root m → m ≡ entries
-  entries-counted m = tree.entries-counted N (viewOf image P N) (checked image P N) root entries (p .visited) (p .walked) m
+  entries-counted m = tree.entries-counted N (pagesOf image P N) (viewOf image P N) (checked image P N) root entries (p .visited) (p .walked) m
 
-  apart : memb f (p .visited) ≡ false
-  apart =
-      not-visited image P N root f entries (p .visited) (p .walked) f
-      (listed-sound image P N root f entries (p .visited) (p .walked) (p .listed) .apart)
+  abbrev all : List ℕ
+  all = pagesAt image P f ++ p .visited
 
-  visited-iff : (q : ℕ) → (memb q (f ∷ p .visited) ≡ true) ↔ (ReachedFrom image P N root q ⊎ (q ≡ f))
-  visited-iff q = (there (eqb q f) refl, back)
+  all-iff : (k : ℕ) → (memb k all ≡ true) ↔ (UsedFrom image P N root k ⊎ InBlock image P f k)
+  all-iff k = (there, back)
     where
-      exact : (memb q (p .visited) ≡ true) ↔ ReachedFrom image P N root q
-      exact = tree.pages-exact N (viewOf image P N) (checked image P N) root entries (p .visited) (p .walked) q
+      used : (memb k (p .visited) ≡ true) ↔ UsedFrom image P N root k
+      used = visited-iff image P N root entries (p .visited) (p .walked) k
 
-      there : (t : Bool) → eqb q f ≡ t → (t || memb q (p .visited)) ≡ true → ReachedFrom image P N root q ⊎ (q ≡ f)
-      there true e h = inr (eqb-true q f e)
-      there false e h = inl (exact .0 h)
+      there : memb k all ≡ true → UsedFrom image P N root k ⊎ InBlock image P f k
+      there e = ⊎-elim (λ h. inr (block-iff image P f k .0 h)) (λ h. inl (used .0 h)) (memb-either k (pagesAt image P f) (p .visited) e)
 
-      back : ReachedFrom image P N root q ⊎ (q ≡ f) → memb q (f ∷ p .visited) ≡ true
-      back (inl r) = go (eqb q f)
-        where
-          go : (t : Bool) → (t || memb q (p .visited)) ≡ true
-          go true = refl
-          go false = exact .1 r
-      back (inr e) = rw (eq-eqb q f e)
+      back : UsedFrom image P N root k ⊎ InBlock image P f k → memb k all ≡ true
+      back (inl u) = memb-right k (pagesAt image P f) (p .visited) (used .1 u)
+      back (inr o) = memb-left k (pagesAt image P f) (p .visited) (block-iff image P f k .1 o)
 
-  own : Distinct (f ∷ p .visited)
-  own = (apart, tree.each-once N (viewOf image P N) (checked image P N) root entries (p .visited) (p .walked))
+  all-once : Distinct all
+  all-once =
+      distinct-append (pagesAt image P f) (p .visited) (p .listed .apart)
+      (pages-distinct f (overflowOf (drop (f * P) image) + 1))
+      (tree.each-once N (pagesOf image P N) (viewOf image P N) (checked image P N) root entries (p .visited) (p .walked) (of-distinct image P N))
 
-  -- the pages that are reached or the freelist's, each once: there are `blocks` of them
-  pub blocks-listed : (ps : List ℕ) × Distinct ps × ((q : ℕ) → (memb q ps ≡ true) ↔ (ReachedFrom image P N root q ⊎ (q ≡ f))) × (length ps ≡ blocks)
-  blocks-listed = (f ∷ p .visited, (own), visited-iff, sym (p .blocks))
+  -- the pages of the blocks reached and of the freelist's block, each once: there are `pages` of them
+  pub pages-listed : (ps : List ℕ) × Distinct ps × ((k : ℕ) → (memb k ps ≡ true) ↔ (UsedFrom image P N root k ⊎ InBlock image P f k)) × (length ps ≡ pages)
+  pages-listed = (all, all-once, all-iff, sym (p .pages))
 
   -- and no such list has another number
-  pub blocks-counted : (ps : List ℕ) → Distinct ps → ((q : ℕ) → (memb q ps ≡ true) ↔ (ReachedFrom image P N root q ⊎ (q ≡ f))) → length ps ≡ blocks
-  blocks-counted ps d h =
-      let a = no-longer ps (f ∷ p .visited) d (λ q e. visited-iff q .1 (h q .0 e)) in
-      let b = no-longer (f ∷ p .visited) ps own (λ q e. h q .1 (visited-iff q .0 e)) in
-      let k = p .blocks in
+  pub pages-counted : (ps : List ℕ) → Distinct ps → ((k : ℕ) → (memb k ps ≡ true) ↔ (UsedFrom image P N root k ⊎ InBlock image P f k)) → length ps ≡ pages
+  pages-counted ps d h =
+      let a = no-longer ps all d (λ k e. all-iff k .1 (h k .0 e)) in
+      let b = no-longer all ps all-once (λ k e. h k .1 (all-iff k .0 e)) in
+      let n = p .pages in
       omega arith

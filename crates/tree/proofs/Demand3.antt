@@ -12,16 +12,16 @@ use native.Mathlib.Omega.{arith}
 use lib.ListN.{length, getD, take, drop, length-drop}
 use lib.Seq.{drop-drop, take-take, take-nil, length-take-le, getD-take, getD-drop, ext-getD}
 use Rattle.page.specs.Layout.{countOf, overflowOf, isLeaf, valueAt, valueSize, valueOf}
-use Rattle.page.specs.PageRules.{headerBad, blockOf}
-use Rattle.walk.specs.Tree.{Key, Item, View, bad, branch, leaf, memb, Answer, refused, found, absent, lookup, same, seekFrom, Below, LeafEntry}
-use Rattle.walk.proofs.SoundLaws.{below-way}
+use Rattle.page.specs.PageRules.{blockOf}
+use Rattle.walk.specs.Tree.{Key, Item, View, bad, branch, leaf, Answer, refused, found, absent, lookup, same, seekFrom, LeafEntry}
+use Rattle.walk.specs.Sound.{Sound}
 use Rattle.walk.proofs.Theorems as tree
 use Rattle.view.specs.declared.Fault.{Fault}
 use Rattle.view.specs.declared.Value.{Value}
 use Rattle.lookup.specs.declared.Looked.{Looked}
 use Rattle.lookup.specs.declared.Looked.the-variants.{Found, Absent, Refused}
 use Rattle.view.specs.Geometry.{geometryBad}
-use Rattle.view.specs.View.{valueItem, viewOf}
+use Rattle.view.specs.View.{valueItem, viewOf, pagesOf}
 use Rattle.view.specs.Fault.{faultAt}
 use Rattle.lookup.specs.Lookup.{lookedOf, lookupOf, valueIn}
 use Rattle.judge.specs.Judge.{Passes}
@@ -31,6 +31,7 @@ use Rattle.tree.specs.Holds.{Holds, valueHeld}
 use Rattle.tree.specs.Demand3.{ByLeaf, Demand3In}
 use Rattle.view.proofs.ViewLaws.{checked, LeafBlock, view-branch, view-leaf, row-at, at-row}
 use Rattle.view.proofs.ViewFrame.{block-is, header-ends, block-end, block-length, same-view}
+use Rattle.tree.proofs.UsedPages.{reached-seen, reached-header}
 use Rattle.tree.proofs.PassesSound.{Passed, judge-passed, passes-iff-sound}
 use Rattle.view.proofs.GeometryLaws.{sizes-geometry}
 
@@ -61,26 +62,20 @@ module _ (image : List ℕ) (P N root f : ℕ) (passes : Passes image P N root f
   abbrev view : ℕ → Bool → View Value
   view = viewOf image P N
 
-  p : Passed image P N root f (passes .entries) (passes .blocks)
-  p = judge-passed image P N root f (passes .entries) (passes .blocks) (passes .passed)
+  p : Passed image P N root f (passes .entries) (passes .pages)
+  p = judge-passed image P N root f (passes .entries) (passes .pages) (passes .passed)
 
   looks : (key : Key) → lookupOf image P N root key ≡ lookedOf (lookup N view 16 true root key)
   unfolding lookupOf
   looks key = rw (sizes-geometry image P N (p .sizes))
 
   -- ---- pages reached are sound
-  not-bad : (q l : ℕ) (t : Bool) → Below view root true l q t → (r e : ℕ) → view q t ≡ bad r e → ⊥
-  not-bad q l t w =
-      let x = below-way view [] none w in
-      passes-iff-sound image P N root f .0 passes .tree .each (x .0) q t (x .1) (x .2) (x .3) .seen
+  sound : Sound view (pagesOf image P N) N 16 root true [] none
+  sound = passes-iff-sound image P N root f .0 passes .tree
 
-  header-sound : (q : ℕ) → ReachedFrom image P N root q → headerBad N q (drop (q * P) image) ≡ false
-  header-sound q x = go (view q (x .top)) refl
-    where
-      go : (v : View Value) → view q (x .top) ≡ v → headerBad N q (drop (q * P) image) ≡ false
-      go (bad r e) h = absurd (not-bad q (x .level) (x .top) (x .way) r e h)
-      go (branch cs) h = view-branch image P N q (x .top) cs h .header
-      go (leaf es) h = view-leaf image P N q (x .top) es h .header
+  -- the block of a page reached ends below page N
+  ends : (q : ℕ) → ReachedFrom image P N root q → q + overflowOf (drop (q * P) image) < N
+  ends q x = header-ends N q _ (reached-header image P N root sound q x)
 
   -- ---- leaf entries, by their bytes
   entry-holds : (q i : ℕ) (e : Item Value) → LeafEntry view root true q i e
@@ -105,7 +100,7 @@ module _ (image : List ℕ) (P N root f : ℕ) (passes : Passes image P N root f
     where
       go : (v : View Value) → view q (h .reached .top) ≡ v
           → (es : List (Item Value)) × (view q (h .reached .top) ≡ leaf es) × LeafBlock image P N q (h .reached .top) es
-      go (bad r e) g = absurd (not-bad q (h .reached .level) (h .reached .top) (h .reached .way) r e g)
+      go (bad r e) g = absurd (reached-seen image P N root sound q (h .reached) r e g)
       go (branch cs) g =
           absurd (let a = view-branch image P N q (h .reached .top) cs g .kind in let b = h .isALeaf in let z : _≡_ {A = ℕ} 0 1 = cc in omega arith)
       go (leaf es) g = (es, g, view-leaf image P N q (h .reached .top) es g)
@@ -128,7 +123,7 @@ module _ (image : List ℕ) (P N root f : ℕ) (passes : Passes image P N root f
   never-refused key x e = go (lookup N view 16 true root key) refl (sym (looks key) ∙ e)
     where
       go : (a : Answer Value) → lookup N view 16 true root key ≡ a → lookedOf a ≡ Refused x → ⊥
-      go (refused r q i) h g = tree.never-refused N view (checked image P N) root (passes .entries) (p .visited) (p .walked) key r q i h
+      go (refused r q i) h g = tree.never-refused N (pagesOf image P N) view (checked image P N) root (passes .entries) (p .visited) (p .walked) key r q i h
       go (found y q i) h g = let z : _≡_ {A = ℕ} 0 1 = cc in omega arith
       go absent h g = let z : _≡_ {A = ℕ} 0 1 = cc in omega arith
 
@@ -141,7 +136,7 @@ module _ (image : List ℕ) (P N root f : ℕ) (passes : Passes image P N root f
           → (page : ℕ) × (i : ℕ) × Holds image P N root key page i × (v ≡ valueHeld image P page i)
       there (refused r q i) h g = absurd (let z : _≡_ {A = ℕ} 0 1 = cc in omega arith)
       there (found y q i) h g =
-          let x = tree.found-iff N view (checked image P N) root (passes .entries) (p .visited) (p .walked) key y q i .0 h in
+          let x = tree.found-iff N (pagesOf image P N) view (checked image P N) root (passes .entries) (p .visited) (p .walked) key y q i .0 h in
           let w = entry-holds q i y (x .0) in
           let u : y .value ≡ v = cc in
           (q, i, rw (x .1) at (w .0), sym u ∙ ap (λ (e : Item Value). e .value) (w .1))
@@ -149,7 +144,7 @@ module _ (image : List ℕ) (P N root f : ℕ) (passes : Passes image P N root f
 
       back : ((page : ℕ) × (i : ℕ) × Holds image P N root key page i × (v ≡ valueHeld image P page i)) → lookupOf image P N root key ≡ Found v
       back (q, i, h, e) =
-          let x = tree.found-iff N view (checked image P N) root (passes .entries) (p .visited) (p .walked) key (valueItem (q * P) (blockOf image P q) i) q i .1
+          let x = tree.found-iff N (pagesOf image P N) view (checked image P N) root (passes .entries) (p .visited) (p .walked) key (valueItem (q * P) (blockOf image P q) i) q i .1
           (holds-entry key q i h, h .hasKey) in
           looks key ∙ ap lookedOf x ∙ ap Found (sym e)
 
@@ -160,20 +155,20 @@ module _ (image : List ℕ) (P N root f : ℕ) (passes : Passes image P N root f
       there (refused r q i) h g page j x = let z : _≡_ {A = ℕ} 0 1 = cc in omega arith
       there (found y q i) h g page j x = let z : _≡_ {A = ℕ} 0 1 = cc in omega arith
       there absent h g page j x =
-          tree.absent-iff N view (checked image P N) root (passes .entries) (p .visited) (p .walked) key .0 h page j
+          tree.absent-iff N (pagesOf image P N) view (checked image P N) root (passes .entries) (p .visited) (p .walked) key .0 h page j
           (valueItem (page * P) (blockOf image P page) j) (holds-entry key page j x) (x .hasKey)
 
       back : ((page i : ℕ) → Holds image P N root key page i → ⊥) → lookupOf image P N root key ≡ Absent
       back n =
           looks key
           ∙ ap lookedOf
-          (tree.absent-iff N view (checked image P N) root (passes .entries) (p .visited) (p .walked) key .1
+          (tree.absent-iff N (pagesOf image P N) view (checked image P N) root (passes .entries) (p .visited) (p .walked) key .1
           (λ q i e x k. n q i (rw k at (entry-holds q i e x .0))))
 
   -- ---- the answer comes from a leaf that is reached by level 16
   by-leaf : (key : Key) → ByLeaf image P N root key (lookupOf image P N root key)
   by-leaf key =
-      let w = tree.lands N view (checked image P N) root (passes .entries) (p .visited) (p .walked) key in
+      let w = tree.lands N (pagesOf image P N) view (checked image P N) root (passes .entries) (p .visited) (p .walked) key in
       record {
         page = w .page;
         reached = record { level = w .level; top = w .top; way = w .way };
@@ -190,7 +185,7 @@ module _ (image : List ℕ) (P N root f : ℕ) (passes : Passes image P N root f
           → (i : ℕ) × Holds image P N root key page i × (v ≡ valueHeld image P page i)
       there page es v (refused r q i) h s g = absurd (let z : _≡_ {A = ℕ} 0 1 = cc in omega arith)
       there page es v (found y q i) h s g =
-          let x = tree.found-iff N view (checked image P N) root (passes .entries) (p .visited) (p .walked) key y q i .0 h in
+          let x = tree.found-iff N (pagesOf image P N) view (checked image P N) root (passes .entries) (p .visited) (p .walked) key y q i .0 h in
           let w = entry-holds q i y (x .0) in
           let u : y .value ≡ v = cc in
           let k = own-page es key page 0 y q i (sym s ∙ h) in
@@ -204,7 +199,7 @@ module _ (image : List ℕ) (P N root f : ℕ) (passes : Passes image P N root f
   value-shown key q i h =
       let b : List ℕ = blockOf image P q in
       let n : ℕ = (overflowOf (drop (q * P) image) + 1) * P in
-      let l = block-length image P N q (header-ends N q _ (header-sound q (h .reached))) (p .sizes .holds) in
+      let l = block-length image P N q (ends q (h .reached)) (p .sizes .holds) in
       let w = leaf-view key q i h .2 .sound .within i (h .index) in
       part-part n (q * P) (valueAt true b i) (valueSize true b i) image (omega arith)
       ∙ ap (λ (s : List ℕ). take (valueSize true b i) (drop (valueAt true b i) s)) (sym (block-is image P q))
@@ -212,7 +207,7 @@ module _ (image : List ℕ) (P N root f : ℕ) (passes : Passes image P N root f
   -- ---- no second leaf entry has that key
   one-entry : (key : Key) (page i page′ i′ : ℕ) → Holds image P N root key page i → Holds image P N root key page′ i′ → (page ≡ page′) × (i ≡ i′)
   one-entry key q i q′ i′ h h′ =
-      let x = tree.one-place N view (checked image P N) root (passes .entries) (p .visited) (p .walked) q i _ q′ i′ _
+      let x = tree.one-place N (pagesOf image P N) view (checked image P N) root (passes .entries) (p .visited) (p .walked) q i _ q′ i′ _
       (holds-entry key q i h) (holds-entry key q′ i′ h′) (h .hasKey ∙ sym (h′ .hasKey)) in
       (x .0, x .1)
 
@@ -222,12 +217,9 @@ module _ (image : List ℕ) (P N root f : ℕ) (passes : Passes image P N root f
   outside-free image′ same key =
       rw (same .sameLength)
       (ap (λ (a : Answer Value). cond (geometryBad image P N) (Refused (faultAt 1 0 0)) (lookedOf a))
-      (tree.lookup-framed N view (checked image P N) root (passes .entries) (p .visited) (p .walked) (viewOf image′ P N) agrees key))
-    where
-      agrees : (q : ℕ) (s : Bool) → memb q (p .visited) ≡ true → viewOf image′ P N q s ≡ view q s
-      agrees q s m =
-          let r = tree.pages-exact N view (checked image P N) root (passes .entries) (p .visited) (p .walked) q .0 m in
-          same-view image P N q (header-ends N q _ (header-sound q r)) (p .sizes .holds) image′ (p .sizes .leastSize) (same .sameLength) (λ k. same .sameBytes q k r) s
+      (tree.lookup-framed N view (viewOf image′ P N) root
+      (λ q s r. same-view image P N q (ends q r) (p .sizes .holds) image′ (p .sizes .leastSize) (same .sameLength) (λ k. same .sameBytes q k r) s)
+      key))
 
   -- and the value shown has the same bytes
   outside-value : (image′ : List ℕ) → SameWithin image image′ P N root → (key : Key)
@@ -247,8 +239,8 @@ module _ (image : List ℕ) (P N root f : ℕ) (passes : Passes image P N root f
       held : (page i : ℕ) → Holds image P N root key page i → valueIn image′ (Found (valueHeld image P page i)) ≡ valueIn image (Found (valueHeld image P page i))
       held page i h =
           let w = leaf-view key page i h .2 .sound .within i (h .index) in
-          let f = block-end image P N page (header-ends N page _ (header-sound page (h .reached))) (p .sizes .holds) in
-          let l = block-length image P N page (header-ends N page _ (header-sound page (h .reached))) (p .sizes .holds) in
+          let f = block-end image P N page (ends page (h .reached)) (p .sizes .holds) in
+          let l = block-length image P N page (ends page (h .reached)) (p .sizes .holds) in
           part (valueSize true (blockOf image P page) i) (page * P + valueAt true (blockOf image P page) i) (omega arith)
           (λ j m. same .sameBytes page (page * P + valueAt true (blockOf image P page) i + j) (h .reached) (omega arith) (omega arith))
 

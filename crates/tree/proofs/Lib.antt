@@ -1,4 +1,5 @@
--- The theorems on images.
+-- The theorems on images, and the pages that a sound tree uses.
+pub mod UsedPages
 pub mod PassesSound
 pub mod Counts
 pub mod Demand3

@@ -3,7 +3,7 @@
 -- Assumes nothing.
 use mathlib.Core.Path.{_≡_, refl, ap, _∙_}
 use mathlib.Core.Bool.{Bool, true, false, not, cond, _&&_}
-use mathlib.Core.List.{List, [], _∷_}
+use mathlib.Core.List.{List, [], _∷_, _++_}
 use mathlib.Core.Option.{Option, none, some}
 use Prim.Native.Nat.{ℕ, zero, suc, _+_, _-_, _*_, _<_}
 use native.Mathlib.Omega.{arith}
@@ -14,7 +14,7 @@ use Rattle.page.specs.declared.rules.Verdict.the-variants as verdict
 use Rattle.page.specs.Layout.{countOf, isLeaf}
 use Rattle.page.specs.PageRules.{andThen, breachIf, firstBad, tableBad, elementBad, keyBad, headerBad, blockOf, checkOf, afterCheck}
 use Rattle.page.proofs.FirstBreach.{breach-first}
-use Rattle.walk.specs.Tree.{Key, Item, View, bad, branch, leaf, keys, memb, inside, firstOut, unlessOut, next, Walker, pass, fault, ifPassed, walkAll, walkPage, walk, same, childFor, seekFrom, lookPage, Answer, refused, found, absent, lookup, Verdict as Walk}
+use Rattle.walk.specs.Tree.{Key, Item, View, bad, branch, leaf, keys, inside, firstIn, firstOut, unlessTwice, unlessOut, next, Walker, pass, fault, ifPassed, walkAll, walkPage, walk, same, childFor, seekFrom, lookPage, Answer, refused, found, absent, lookup, Verdict as Walk}
 use Rattle.view.specs.declared.Fault.{Fault}
 use Rattle.view.specs.declared.Value.{Value}
 use Rattle.lookup.specs.declared.Looked.{Looked}
@@ -22,10 +22,10 @@ use Rattle.lookup.specs.declared.Looked.the-variants as looked
 use Rattle.judge.specs.declared.Judged.{Judged}
 use Rattle.judge.specs.declared.Judged.the-variants.{Sound, Refused}
 use Rattle.view.specs.Geometry.{geometryBad}
-use Rattle.view.specs.View.{elementsView, blockView, viewOf}
+use Rattle.view.specs.View.{elementsView, blockView, viewOf, pagesAt, pagesOf}
 use Rattle.view.specs.Fault.{faultAt}
 use Rattle.lookup.specs.Lookup.{lookedOf, lookupOf, lookedNumber}
-use Rattle.judge.specs.Judge.{idOutside, idNotAbove, idMarked, freeHeaderBad, idsOf, freelistOf, judgedOf, afterTree, judgeOf, Passes, judgedNumber}
+use Rattle.judge.specs.Judge.{idOutside, idNotAbove, idMarked, freeHeaderBad, idsOf, freelistOf, judgedOf, refusedIfTwice, afterTree, judgeOf, Passes, judgedNumber}
 use Rattle.tree.proofs.Demand3.{demand3}
 
 -- ---- breaches are numbered from 1
@@ -50,17 +50,13 @@ check-numbered isLeaf emptyOk b =
     (then-numbered (firstBad (elementBad isLeaf b) 5 (countOf b) 0) (firstBad (keyBad isLeaf b) 6 (countOf b - 1) 1)
     (first-numbered (elementBad isLeaf b) 5 (countOf b) 0 (omega arith)) (first-numbered (keyBad isLeaf b) 6 (countOf b - 1) 1 (omega arith)))
 
-list-numbered : (image : List ℕ) (P N f : ℕ) (vs : List ℕ) → Numbered (freelistOf image P N f vs)
-unfolding freelistOf idsOf
-list-numbered image P N f vs =
-    let b : List ℕ = blockOf image P f in
-    breachIf-numbered (not (inside N f)) 2 _ (omega arith)
-    (breachIf-numbered (memb f vs) 8 _ (omega arith)
-    (breachIf-numbered (freeHeaderBad N f (drop (f * P) image)) 3 _ (omega arith)
-    (breachIf-numbered (ltb (length b) (32 + 8 * countOf b)) 4 _ (omega arith)
+ids-numbered : (N : ℕ) (marked b : List ℕ) → Numbered (idsOf N marked b)
+unfolding idsOf
+ids-numbered N marked b =
+    breachIf-numbered (ltb (length b) (32 + 8 * countOf b)) 4 _ (omega arith)
     (then-numbered (firstBad (idOutside N b) 5 (countOf b) 0) _ (first-numbered (idOutside N b) 5 (countOf b) 0 (omega arith))
-    (then-numbered (firstBad (idNotAbove b) 6 (countOf b - 1) 1) (firstBad (idMarked (f ∷ vs) b) 8 (countOf b) 0)
-    (first-numbered (idNotAbove b) 6 (countOf b - 1) 1 (omega arith)) (first-numbered (idMarked (f ∷ vs) b) 8 (countOf b) 0 (omega arith)))))))
+    (then-numbered (firstBad (idNotAbove b) 6 (countOf b - 1) 1) (firstBad (idMarked marked b) 8 (countOf b) 0)
+    (first-numbered (idNotAbove b) 6 (countOf b - 1) 1 (omega arith)) (first-numbered (idMarked marked b) 8 (countOf b) 0 (omega arith))))
 
 -- ---- faults of the walk are numbered from 1
 abbrev NumberedView : (ℕ → Bool → View Value) → Type 0
@@ -102,11 +98,11 @@ seek-answers (x ∷ es) key q i r p j h = go (same (x .key) key) h (seek-answers
     go true g ih = let z : _≡_ {A = ℕ} 0 1 = cc in omega arith
     go false g ih = ih g
 
-module _ (N : ℕ) (view : ℕ → Bool → View Value) (numbered : NumberedView view) where
-  walk-faulted : (d : ℕ) (t : Bool) (q : ℕ) (low : Key) (high : Option Key) (vs : List ℕ) → Faulted (walk N view d t q low high vs)
+module _ (N : ℕ) (block : ℕ → List ℕ) (view : ℕ → Bool → View Value) (numbered : NumberedView view) where
+  walk-faulted : (d : ℕ) (t : Bool) (q : ℕ) (low : Key) (high : Option Key) (vs : List ℕ) → Faulted (walk N block view d t q low high vs)
   unfolding walk walkPage
   walk-faulted zero t q low high vs r p i e = let u : 9 ≡ r = cc in omega arith
-  walk-faulted (suc d) t q low high vs r p i e = go (inside N q) (memb q vs) e (λ a x y z. walk-faulted d false a x y z)
+  walk-faulted (suc d) t q low high vs r p i e = go (inside N q) (firstIn (block q) vs) e (λ a x y z. walk-faulted d false a x y z)
     where
       ranged : (o : Option ℕ) (w : Walk) → Faulted w → unlessOut o q w ≡ fault r p i → 0 < r
       ranged none w f h = f r p i h
@@ -115,18 +111,20 @@ module _ (N : ℕ) (view : ℕ → Bool → View Value) (numbered : NumberedView
       passes : (n : ℕ) (ws : List ℕ) → Faulted (pass n ws)
       passes n ws k a b h = absurd (let z : _≡_ {A = ℕ} 0 1 = cc in omega arith)
 
-      page : (v : View Value) → view q t ≡ v → ((a : ℕ) (x : Key) (y : Option Key) (z : List ℕ) → Faulted (walk N view d false a x y z))
-          → walkPage (walk N view d false) v q low high (q ∷ vs) ≡ fault r p i → 0 < r
+      page : (v : View Value) → view q t ≡ v → ((a : ℕ) (x : Key) (y : Option Key) (z : List ℕ) → Faulted (walk N block view d false a x y z))
+          → walkPage (walk N block view d false) v q low high (block q ++ vs) ≡ fault r p i → 0 < r
       page (bad k j) f ih h = let u : k ≡ r = cc in numbered q t r j (f ∙ ap (λ (x : ℕ). bad x j) u)
-      page (branch cs) f ih h = ranged (firstOut low high (keys cs) 0) (walkAll (walk N view d false) cs high 0 (q ∷ vs)) (all-faulted cs (walk N view d false) ih high 0 (q ∷ vs)) h
-      page (leaf es) f ih h = ranged (firstOut low high (keys es) 0) (pass (length es) (q ∷ vs)) (passes (length es) (q ∷ vs)) h
+      page (branch cs) f ih h = ranged (firstOut low high (keys cs) 0) (walkAll (walk N block view d false) cs high 0 (block q ++ vs)) (all-faulted cs (walk N block view d false) ih high 0 (block q ++ vs)) h
+      page (leaf es) f ih h = ranged (firstOut low high (keys es) 0) (pass (length es) (block q ++ vs)) (passes (length es) (block q ++ vs)) h
 
-      go : (a b : Bool) → cond a (cond b (fault 8 q 0) (walkPage (walk N view d false) (view q t) q low high (q ∷ vs))) (fault 2 q 0) ≡ fault r p i
-          → ((a : ℕ) (x : Key) (y : Option Key) (z : List ℕ) → Faulted (walk N view d false a x y z)) → 0 < r
-      go true true h ih = let u : 8 ≡ r = cc in omega arith
-      go true false h ih = page (view q t) refl ih h
-      go false b h ih = let u : 2 ≡ r = cc in omega arith
+      go : (a : Bool) (o : Option ℕ)
+          → cond a (unlessTwice o (walkPage (walk N block view d false) (view q t) q low high (block q ++ vs))) (fault 2 q 0) ≡ fault r p i
+          → ((a : ℕ) (x : Key) (y : Option Key) (z : List ℕ) → Faulted (walk N block view d false a x y z)) → 0 < r
+      go true (some k) h ih = let u : 8 ≡ r = cc in omega arith
+      go true none h ih = page (view q t) refl ih h
+      go false o h ih = let u : 2 ≡ r = cc in omega arith
 
+module _ (N : ℕ) (view : ℕ → Bool → View Value) (numbered : NumberedView view) where
   look-faulted : (d : ℕ) (t : Bool) (q : ℕ) (key : Key) (r p i : ℕ) → lookup N view d t q key ≡ refused r p i → 0 < r
   unfolding lookup lookPage
   look-faulted zero t q key r p i e = let u : 9 ≡ r = cc in omega arith
@@ -162,36 +160,53 @@ lookup-numbered image P N root key x e = go (geometryBad image P N) e
     go false h = told (lookup N (viewOf image P N) 16 true root key) refl h
 
 -- ---- the judge
+abbrev NumberedJudged : Judged → Type 0
+NumberedJudged j = (x : Fault) → j ≡ Refused x → 0 < x .number
+
+fault-numbered : (r p i : ℕ) → 0 < r → NumberedJudged (Refused (faultAt r p i))
+fault-numbered r p i l x e =
+    let u : faultAt r p i ≡ x = cc in
+    let v : r ≡ x .number = ap (λ (y : Fault). y .number) u in
+    omega arith
+
+cond-numbered : (t : Bool) (i j : Judged) → NumberedJudged i → NumberedJudged j → NumberedJudged (cond t i j)
+cond-numbered true i j a b = a
+cond-numbered false i j a b = b
+
+twice-numbered : (o : Option ℕ) (j : Judged) → NumberedJudged j → NumberedJudged (refusedIfTwice o j)
+twice-numbered none j a = a
+twice-numbered (some q) j a = fault-numbered 8 q 0 (omega arith)
+
+verdict-numbered : (v : Verdict) (f n k : ℕ) → Numbered v → NumberedJudged (judgedOf v f n k)
+verdict-numbered verdict.Sound f n k m x e = absurd (let z : _≡_ {A = ℕ} 0 1 = cc in omega arith)
+verdict-numbered (verdict.Breach r i) f n k m x e = fault-numbered r f i (m r i refl) x e
+
+list-numbered : (image : List ℕ) (P N f n : ℕ) (vs : List ℕ) → NumberedJudged (freelistOf image P N f n vs)
+unfolding freelistOf
+list-numbered image P N f n vs =
+    cond-numbered (not (inside N f)) _ _ (fault-numbered 2 f 0 (omega arith))
+    (cond-numbered (freeHeaderBad N f (drop (f * P) image)) _ _ (fault-numbered 3 f 0 (omega arith))
+    (twice-numbered (firstIn (pagesAt image P f) vs) _
+    (verdict-numbered (idsOf N (pagesAt image P f ++ vs) (blockOf image P f)) f n (length (pagesAt image P f ++ vs))
+    (ids-numbered N (pagesAt image P f ++ vs) (blockOf image P f)))))
+
 pub judge-numbered : (image : List ℕ) (P N root f : ℕ) (x : Fault) → judgeOf image P N root f ≡ Refused x → 0 < x .number
 unfolding judgeOf
-judge-numbered image P N root f x e = go (geometryBad image P N) e
+judge-numbered image P N root f =
+    cond-numbered (geometryBad image P N) _ _ (fault-numbered 1 0 0 (omega arith))
+    (tree (walk N (pagesOf image P N) (viewOf image P N) 16 true root [] none [])
+    (walk-faulted N (pagesOf image P N) (viewOf image P N) (view-numbered image P N) 16 true root [] none []))
   where
-    listed : (n k : ℕ) (v : Verdict) → Numbered v → judgedOf v f n k ≡ Refused x → 0 < x .number
-    listed n k verdict.Sound m h = absurd (let z : _≡_ {A = ℕ} 0 1 = cc in omega arith)
-    listed n k (verdict.Breach r i) m h =
-        let l = m r i refl in
-        let u : faultAt r f i ≡ x = cc in
-        let v : r ≡ x .number = ap (λ (y : Fault). y .number) u in
-        omega arith
-
-    tree : (w : Walk) → Faulted w → afterTree image P N f w ≡ Refused x → 0 < x .number
-    tree (pass n vs) g h = listed n (length (f ∷ vs)) (freelistOf image P N f vs) (list-numbered image P N f vs) h
-    tree (fault r p i) g h =
-        let l = g r p i refl in
-        let u : faultAt r p i ≡ x = cc in
-        let v : r ≡ x .number = ap (λ (y : Fault). y .number) u in
-        omega arith
-
-    go : (t : Bool) → cond t (Refused (faultAt 1 0 0)) (afterTree image P N f (walk N (viewOf image P N) 16 true root [] none [])) ≡ Refused x → 0 < x .number
-    go true h = let u : faultAt 1 0 0 ≡ x = cc in let v : 1 ≡ x .number = ap (λ (y : Fault). y .number) u in omega arith
-    go false h = tree (walk N (viewOf image P N) 16 true root [] none []) (walk-faulted N (viewOf image P N) (view-numbered image P N) 16 true root [] none []) h
+    tree : (w : Walk) → Faulted w → NumberedJudged (afterTree image P N f w)
+    tree (pass n vs) g = list-numbered image P N f n vs
+    tree (fault r p i) g = fault-numbered r p i (g r p i refl)
 
 -- a judge that answers 0 has passed
 pub zero-passes : (image : List ℕ) (P N root f : ℕ) → judgedNumber (judgeOf image P N root f) ≡ 0 → Passes image P N root f
 zero-passes image P N root f e = go (judgeOf image P N root f) refl e
   where
     go : (j : Judged) → judgeOf image P N root f ≡ j → judgedNumber j ≡ 0 → Passes image P N root f
-    go (Sound entries blocks) h z = record { entries = entries; blocks = blocks; passed = h }
+    go (Sound entries pages) h z = record { entries = entries; pages = pages; passed = h }
     go (Refused x) h z = absurd (let l = judge-numbered image P N root f x h in omega arith)
 
 -- ---- and then every lookup answers 0

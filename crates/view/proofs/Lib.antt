@@ -1,5 +1,6 @@
--- The laws on views of pages, and on geometry.
+-- The laws on views of pages, on the pages of blocks, and on geometry.
 pub mod GeometryLaws
 pub mod ViewLaws
 pub mod ViewFrame
+pub mod PagesLaws
 pub mod ImageLaws

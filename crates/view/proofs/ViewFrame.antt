@@ -1,4 +1,4 @@
--- The block of a page whose header is sound lies within the image, and a page's view is decided by its block.
+-- The block of a page whose header is sound lies within the image, and a page's view and the pages of its block are decided by its block.
 -- Assumes nothing.
 use mathlib.Core.Path.{_≡_, refl, sym, _∙_}
 use mathlib.Core.Bool.{Bool, false, not, _||_}
@@ -14,7 +14,7 @@ use Rattle.field.specs.Field.{field}
 use Rattle.page.specs.Layout.{idOf, typeOf, overflowOf, isBranch, isLeaf}
 use Rattle.page.specs.PageRules.{headerBad, blockOf}
 use Rattle.page.proofs.TestLaws.{or-neither}
-use Rattle.view.specs.View.{viewOf}
+use Rattle.view.specs.View.{viewOf, pagesOf}
 
 -- equal bytes make equal fields
 pub field-ext : (w : ℕ) (s t : List ℕ) (at : ℕ) → ((j : ℕ) → j < at + w → getD s j 0 ≡ getD t j 0) → field w s at ≡ field w t at
@@ -56,7 +56,7 @@ module _ (image : List ℕ) (P N q : ℕ) (ends : q + overflowOf (drop (q * P) i
   pub block-page : P ≤ length (blockOf image P q)
   block-page = omega (arith, block-length, add-mul overflow 1 P, one-mul P)
 
-  -- another image with the same bytes there has the same view
+  -- another image with the same bytes there has the same view and the same pages
   module _ (image′ : List ℕ) (sized : 1024 ≤ P) (sameLength : length image′ ≡ length image)
       (sameBytes : (k : ℕ) → q * P ≤ k → k < q * P + length (blockOf image P q) → getD image′ k 0 ≡ getD image k 0)
     where
@@ -90,3 +90,7 @@ module _ (image : List ℕ) (P N q : ℕ) (ends : q + overflowOf (drop (q * P) i
       pub same-view : (top : Bool) → viewOf image′ P N q top ≡ viewOf image P N q top
       unfolding viewOf
       same-view top = rw (same-header, same-block)
+
+      pub same-pages : pagesOf image′ P N q ≡ pagesOf image P N q
+      unfolding pagesOf
+      same-pages = rw (same-header, same-field 24 (omega arith))

@@ -1,11 +1,11 @@
 -- A page of an image, as the walk and the lookup view it: refused with a number and an element, a branch's separators with their children,
--- or a leaf's keys, each with what lookup tells of its entry.
+-- or a leaf's keys, each with what lookup tells of its entry; and the pages that its block takes up.
 -- Assumes nothing.
 use mathlib.Core.Bool.{Bool, true, false, not, cond, _&&_}
 use mathlib.Core.List.{List, [], _∷_}
 use Prim.Native.Nat.{ℕ, zero, suc, _+_, _*_}
 use lib.ListN.{length, drop}
-use Rattle.page.specs.Layout.{countOf, isLeaf, pageOf, kindOf, keyOf, valueAt, valueSize}
+use Rattle.page.specs.Layout.{countOf, overflowOf, isLeaf, pageOf, kindOf, keyOf, valueAt, valueSize}
 use Rattle.page.specs.PageRules.{afterCheck, headerBad, blockOf, checkOf}
 use Rattle.walk.specs.Tree.{Item, View, bad, branch, leaf}
 use Rattle.view.specs.declared.Value.{Value}
@@ -36,3 +36,17 @@ blockView start top b = afterCheck (checkOf (isLeaf b) (top && isLeaf b) b) bad 
 -- ---- page q of an image, as the root or not: rule 4, then its block
 unfoldable pub viewOf : List ℕ → ℕ → ℕ → ℕ → Bool → View Value
 viewOf image P N q top = cond (headerBad N q (drop (q * P) image)) (bad 3 0) (blockView (q * P) top (blockOf image P q))
+
+-- ---- the pages of a block
+-- the k pages from q on
+unfoldable pub pagesFrom : ℕ → ℕ → List ℕ
+pagesFrom q zero = []
+pagesFrom q (suc k) = q ∷ pagesFrom (q + 1) k
+
+-- all pages of the block that starts with page q
+abbrev pub pagesAt : List ℕ → ℕ → ℕ → List ℕ
+pagesAt image P q = pagesFrom q (overflowOf (drop (q * P) image) + 1)
+
+-- the same for a page of the tree: none where rule 4 refuses the header
+unfoldable pub pagesOf : List ℕ → ℕ → ℕ → ℕ → List ℕ
+pagesOf image P N q = cond (headerBad N q (drop (q * P) image)) [] (pagesAt image P q)

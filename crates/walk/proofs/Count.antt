@@ -13,7 +13,7 @@ use Rattle.walk.specs.Tree.{lower, memb, Distinct}
 use Rattle.walk.proofs.KeyLaws.{lower-not, lower-chain}
 use Rattle.walk.specs.Listing.{Mem, Slot, keyAt, Sorted}
 use Rattle.walk.proofs.Slots.{every-mem}
-use Rattle.walk.proofs.Reach.{memb-head, memb-tail, memb-cases}
+use Rattle.walk.proofs.Pages.{memb-head, memb-tail, memb-cases}
 
 -- ---- pages
 remove : ℕ → List ℕ → List ℕ

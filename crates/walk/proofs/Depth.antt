@@ -25,7 +25,7 @@ pub record Landed {P : Type 0} (N : ℕ) (view : ℕ → Bool → View P) (key :
   pub within : level ≤ d
   pub answers : lookup N view d t p key ≡ seekFrom entries key page 0
 
-module _ {P : Type 0} (N : ℕ) (view : ℕ → Bool → View P) (checked : Checked view) (key : Key) where
+module _ {P : Type 0} (N : ℕ) (block : ℕ → List ℕ) (view : ℕ → Bool → View P) (checked : Checked view) (key : Key) where
   step : (d : ℕ) (t : Bool) (p : ℕ) (cs : List (Item ℕ)) (i : ℕ) (c : Item ℕ)
       → view p t ≡ branch cs
       → At cs i c
@@ -51,9 +51,9 @@ module _ {P : Type 0} (N : ℕ) (view : ℕ → Bool → View P) (checked : Chec
     unfolding lookPage
 
     pub landed : {d : ℕ} {t : Bool} {p : ℕ} {low : Key} {high : Option Key} {vs : List ℕ} {L : List (Slot P)} {ws : List ℕ}
-        → Walked N view d t p low high vs L ws
+        → Walked N block view d t p low high vs L ws
         → Landed N view key d t p
-    landed (atLeaf {d = d} {t = t} {p = p} {es = es} i m f o q) =
+    landed (atLeaf {d = d} {t = t} {p = p} {es = es} i m f o q g) =
         record {
           level = 1;
           page = p;
@@ -75,7 +75,7 @@ module _ {P : Type 0} (N : ℕ) (view : ℕ → Bool → View P) (checked : Chec
         (child-at cs key)
 
     landed-child : {d : ℕ} {cs : List (Item ℕ)} {high : Option Key} {vs : List ℕ} {L : List (Slot P)} {ws : List ℕ} (i : ℕ) (c : Item ℕ)
-        → WalkedAll N view d cs high vs L ws
+        → WalkedAll N block view d cs high vs L ws
         → At cs i c
         → Landed N view key d false (c .value)
     landed-child i c done a = absurd a

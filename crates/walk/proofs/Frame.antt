@@ -1,12 +1,12 @@
--- The frame: a lookup and a walk read no page that is not reached. Where two views agree on all that are, they answer alike.
+-- The frame: a lookup and a walk read no page that is not reached. Where two views, and for the walk the pages of the blocks too, agree on all that are, they answer alike.
 -- Assumes nothing, not even that a walk passes.
 use Prim.Native.Nat.{ℕ, zero, suc, _+_}
 use mathlib.Core.Path.{_≡_, refl, ap, _∙_}
-use mathlib.Core.List.{List, [], _∷_}
+use mathlib.Core.List.{List, [], _∷_, _++_}
 use mathlib.Core.Bool.{Bool, true, false, cond}
 use mathlib.Core.Option.{Option, none}
 use mathlib.Core.Logic.{_⊎_, inl, inr, ⊎-elim}
-use Rattle.walk.specs.Tree.{Key, under, Item, View, bad, branch, leaf, keys, At, memb, inside, Verdict, pass, fault, ifPassed, firstOut, unlessOut, next, walkAll, walkPage, walk, Answer, refused, childFor, lookPage, lookup, Below, here, down, Walker}
+use Rattle.walk.specs.Tree.{Key, under, Item, View, bad, branch, leaf, keys, At, firstIn, inside, Verdict, pass, fault, ifPassed, firstOut, unlessTwice, unlessOut, next, walkAll, walkPage, walk, Answer, refused, childFor, lookPage, lookup, Below, here, down, Walker}
 use Rattle.walk.proofs.KeyLaws.{under-some}
 
 -- the child for a key is a child, where there is one
@@ -39,14 +39,23 @@ all-frame (c ∷ cs) walker walker′ h high n vs =
     go (pass m ws) r = r m ws
     go (fault r p e) q = refl
 
+module _ {P : Type 0} (view : ℕ → Bool → View P) where
+  -- Q holds of each page reached from p, as it is viewed there
+  abbrev Throughout : (ℕ → Bool → Type 0) → ℕ → Bool → Type 0
+  Throughout Q p t = (l q : ℕ) (s : Bool) → Below view p t l q s → Q q s
+
+  throughout-down : (Q : ℕ → Bool → Type 0) (p : ℕ) (t : Bool) (cs : List (Item ℕ)) (i : ℕ) (c : Item ℕ)
+      → view p t ≡ branch cs
+      → At cs i c
+      → Throughout Q p t
+      → Throughout Q (c .value) false
+  throughout-down Q p t cs i c f a h l q s w = h (suc l) q s (down i c f a w)
+
 module _ {P : Type 0} (N : ℕ) (view view′ : ℕ → Bool → View P) where
-  abbrev pub Agree : ℕ → Bool → Type 0
-  Agree p t = (l q : ℕ) (s : Bool) → Below view p t l q s → view′ q s ≡ view q s
+  abbrev Agree : ℕ → Bool → Type 0
+  Agree q s = view′ q s ≡ view q s
 
-  agree-down : (p : ℕ) (t : Bool) (cs : List (Item ℕ)) (i : ℕ) (c : Item ℕ) → view p t ≡ branch cs → At cs i c → Agree p t → Agree (c .value) false
-  agree-down p t cs i c f a h l q s w = h (suc l) q s (down i c f a w)
-
-  pub lookup-frame : (d : ℕ) (t : Bool) (p : ℕ) (key : Key) → Agree p t → lookup N view′ d t p key ≡ lookup N view d t p key
+  pub lookup-frame : (d : ℕ) (t : Bool) (p : ℕ) (key : Key) → Throughout view Agree p t → lookup N view′ d t p key ≡ lookup N view d t p key
   unfolding lookup lookPage childFor
   lookup-frame zero t p key h = refl
   lookup-frame (suc d) t p key h =
@@ -59,36 +68,43 @@ module _ {P : Type 0} (N : ℕ) (view view′ : ℕ → Bool → View P) where
 
       go : (v : View P)
           → view p t ≡ v
-          → ((q : ℕ) → Agree q false → lookup N view′ d false q key ≡ lookup N view d false q key)
+          → ((q : ℕ) → Throughout view Agree q false → lookup N view′ d false q key ≡ lookup N view d false q key)
           → lookPage (λ q. lookup N view′ d false q key) v p key ≡ lookPage (λ q. lookup N view d false q key) v p key
       go (bad r e) f ih = refl
       go (leaf es) f ih = refl
       go (branch cs) f ih =
           ⊎-elim
           (λ e. rw e (zeroth d))
-          (λ x. rw (x .3) (ih (x .1 .value) (agree-down p t cs (x .0) (x .1) f (x .2) h)))
+          (λ x. rw (x .3) (ih (x .1 .value) (throughout-down view Agree p t cs (x .0) (x .1) f (x .2) h)))
           (child-at cs key)
 
+module _ {P : Type 0} (N : ℕ) (block block′ : ℕ → List ℕ) (view view′ : ℕ → Bool → View P) where
+  abbrev AgreeAll : ℕ → Bool → Type 0
+  AgreeAll q s = (view′ q s ≡ view q s) × (block′ q ≡ block q)
+
   pub walk-frame : (d : ℕ) (t : Bool) (p : ℕ) (low : Key) (high : Option Key) (vs : List ℕ)
-      → Agree p t
-      → walk N view′ d t p low high vs ≡ walk N view d t p low high vs
+      → Throughout view AgreeAll p t
+      → walk N block′ view′ d t p low high vs ≡ walk N block view d t p low high vs
   unfolding walk walkPage
   walk-frame zero t p low high vs h = refl
   walk-frame (suc d) t p low high vs h =
-      ap (λ (v : Verdict). cond (inside N p) (cond (memb p vs) (fault 8 p 0) v) (fault 2 p 0))
-      (ap (λ (v : View P). walkPage (walk N view′ d false) v p low high (p ∷ vs)) (h 1 p t here)
-      ∙ go (view p t) refl (λ q a b c g. walk-frame d false q a b c g))
+      rw (h 1 p t here .1)
+      (ap (λ (v : Verdict). cond (inside N p) (unlessTwice (firstIn (block p) vs) v) (fault 2 p 0))
+      (ap (λ (v : View P). walkPage (walk N block′ view′ d false) v p low high (block p ++ vs)) (h 1 p t here .0)
+      ∙ go (view p t) refl (λ q a b c g. walk-frame d false q a b c g)))
     where
       go : (v : View P)
           → view p t ≡ v
-          → ((q : ℕ) (a : Key) (b : Option Key) (c : List ℕ) → Agree q false → walk N view′ d false q a b c ≡ walk N view d false q a b c)
-          → walkPage (walk N view′ d false) v p low high (p ∷ vs) ≡ walkPage (walk N view d false) v p low high (p ∷ vs)
+          → ((q : ℕ) (a : Key) (b : Option Key) (c : List ℕ)
+          → Throughout view AgreeAll q false
+          → walk N block′ view′ d false q a b c ≡ walk N block view d false q a b c)
+          → walkPage (walk N block′ view′ d false) v p low high (block p ++ vs) ≡ walkPage (walk N block view d false) v p low high (block p ++ vs)
       go (bad r e) f ih = refl
       go (leaf es) f ih = refl
       go (branch cs) f ih =
           ap (unlessOut (firstOut low high (keys cs) 0) p)
-          (all-frame cs (walk N view d false) (walk N view′ d false)
-          (λ i c a x y z. ih (c .value) x y z (agree-down p t cs i c f a h))
+          (all-frame cs (walk N block view d false) (walk N block′ view′ d false)
+          (λ i c a x y z. ih (c .value) x y z (throughout-down view AgreeAll p t cs i c f a h))
           high
           0
-          (p ∷ vs))
+          (block p ++ vs))

@@ -1,6 +1,7 @@
 -- What holds of a tree that passed: the theorems, and the laws on the way to them.
 pub mod KeyLaws
 pub mod Slots
+pub mod Pages
 pub mod Walked
 pub mod Search
 pub mod Reach

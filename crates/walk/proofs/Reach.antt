@@ -1,36 +1,17 @@
--- In a tree whose walk passes: the slots are those of the leaf entries reached, and the pages visited are those reached, each once, none deeper than the walk's levels.
+-- In a tree whose walk passes: the slots are those of the leaf entries reached, and the pages visited are those of the blocks reached, each once where no block has a page twice.
 -- Assumes nothing.
 use Prim.Native.Nat.{ℕ, zero, suc, _+_}
 use native.Mathlib.Omega.{arith}
 use mathlib.Core.Path.{_≡_, refl}
-use mathlib.Core.List.{List, _∷_}
-use mathlib.Core.Bool.{Bool, true, false, _||_}
-use mathlib.Core.Option.{Option, none}
+use mathlib.Core.List.{List, _++_}
+use mathlib.Core.Bool.{Bool, true, false}
+use mathlib.Core.Option.{Option}
 use mathlib.Core.Logic.{_⊎_, inl, inr, ⊎-elim}
-use lib.Dec.{eqb}
-use borrow.Author.Tests.{eqb-true, eq-eqb}
-use Rattle.walk.specs.Tree.{Key, Item, View, branch, leaf, At, memb, Distinct, Below, here, down, Reached, LeafEntry}
+use Rattle.walk.specs.Tree.{Key, Item, View, branch, leaf, At, memb, Distinct, Below, here, down, Used, LeafEntry}
 use Rattle.walk.specs.Listing.{Mem, Slot}
 use Rattle.walk.proofs.Slots.{mem-left, mem-right, mem-either, slots, slot-at, at-slot}
+use Rattle.walk.proofs.Pages.{memb-left, memb-right, memb-either, distinct-append}
 use Rattle.walk.proofs.Walked.{Walked, WalkedAll, atLeaf, atBranch, done, more}
-
--- ---- membership of a page
-pub memb-head : (p : ℕ) (vs : List ℕ) → memb p (p ∷ vs) ≡ true
-memb-head p vs = rw (eq-eqb p p refl)
-
-pub memb-tail : (q p : ℕ) (vs : List ℕ) → memb q vs ≡ true → memb q (p ∷ vs) ≡ true
-memb-tail q p vs e = go (eqb q p)
-  where
-    go : (b : Bool) → b || memb q vs ≡ true
-    go true = refl
-    go false = e
-
-pub memb-cases : (q p : ℕ) (vs : List ℕ) → memb q (p ∷ vs) ≡ true → (q ≡ p) ⊎ (memb q vs ≡ true)
-memb-cases q p vs e = go (eqb q p) refl e
-  where
-    go : (b : Bool) → eqb q p ≡ b → b || memb q vs ≡ true → (q ≡ p) ⊎ (memb q vs ≡ true)
-    go true f g = inl (eqb-true q p f)
-    go false f g = inr g
 
 module _ {P : Type 0} (view : ℕ → Bool → View P) where
   -- a way is no step, or a first step and the rest
@@ -69,6 +50,15 @@ module _ {P : Type 0} (view : ℕ → Bool → View P) where
           let d : ds ≡ cs = cc in
           inr (i, c, k, rw d at a, v, e)
 
+  used-down : {block : ℕ → List ℕ} {p : ℕ} {t : Bool} {cs : List (Item ℕ)} (i : ℕ) (c : Item ℕ) {k : ℕ}
+      → view p t ≡ branch cs
+      → At cs i c
+      → Used view block (c .value) false k
+      → Used view block p t k
+  used-down i c f a x =
+      let r = x .reached in
+      record { page = x .page; reached = record { level = suc (r .level); top = r .top; way = down i c f a (r .way) }; within = x .within }
+
   entry-down : {p : ℕ} {t : Bool} {cs : List (Item ℕ)} (i : ℕ) (c : Item ℕ) {q j : ℕ} {e : Item P}
       → view p t ≡ branch cs
       → At cs i c
@@ -76,14 +66,14 @@ module _ {P : Type 0} (view : ℕ → Bool → View P) where
       → LeafEntry view p t q j e
   entry-down i c f a x = record { level = suc (x .level); top = x .top; entries = x .entries; way = down i c f a (x .way); isLeaf = x .isLeaf; entryAt = x .entryAt }
 
-module _ {P : Type 0} (N : ℕ) (view : ℕ → Bool → View P) where
+module _ {P : Type 0} (N : ℕ) (block : ℕ → List ℕ) (view : ℕ → Bool → View P) where
   -- ---- each slot is that of a leaf entry that is reached
   mutual
     pub entered : {d : ℕ} {t : Bool} {p : ℕ} {low : Key} {high : Option Key} {vs : List ℕ} {L : List (Slot P)} {ws : List ℕ} (s : Slot P)
-        → Walked N view d t p low high vs L ws
+        → Walked N block view d t p low high vs L ws
         → Mem s L
         → LeafEntry view p t (s .page) (s .index) (s .entry)
-    entered s (atLeaf {t = t} {p = p} {es = es} i m f o q) k =
+    entered s (atLeaf {t = t} {p = p} {es = es} i m f o q g) k =
         let x = slot-at es p 0 s (rw q at k) in
         let y : s .index ≡ x .0 = (let z = x .2 in omega arith) in
         record {
@@ -99,7 +89,7 @@ module _ {P : Type 0} (N : ℕ) (view : ℕ → Bool → View P) where
         entry-down view (x .0) (x .1) f (x .2) (x .3)
 
     entered-all : {d : ℕ} {cs : List (Item ℕ)} {high : Option Key} {vs : List ℕ} {L : List (Slot P)} {ws : List ℕ} (s : Slot P)
-        → WalkedAll N view d cs high vs L ws
+        → WalkedAll N block view d cs high vs L ws
         → Mem s L
         → (i : ℕ) × (c : Item ℕ) × At cs i c × LeafEntry view (c .value) false (s .page) (s .index) (s .entry)
     entered-all s done k = absurd k
@@ -112,10 +102,10 @@ module _ {P : Type 0} (N : ℕ) (view : ℕ → Bool → View P) where
   -- ---- each leaf entry that is reached has its slot
   mutual
     pub listed : {d : ℕ} {t : Bool} {p : ℕ} {low : Key} {high : Option Key} {vs : List ℕ} {L : List (Slot P)} {ws : List ℕ} (r j : ℕ) (e : Item P)
-        → Walked N view d t p low high vs L ws
+        → Walked N block view d t p low high vs L ws
         → LeafEntry view p t r j e
         → Mem (record { page = r; index = j; entry = e }) L
-    listed r j e (atLeaf {t = t} {p = p} {es = es} i m f o q) x =
+    listed r j e (atLeaf {t = t} {p = p} {es = es} i m f o q v) x =
         let y = at-leaf view f (x .way) in
         let a = y .0 in
         let b = y .1 in
@@ -132,7 +122,7 @@ module _ {P : Type 0} (N : ℕ) (view : ℕ → Bool → View P) where
         (at-branch view f (x .way))
 
     listed-all : {d : ℕ} {cs : List (Item ℕ)} {high : Option Key} {vs : List ℕ} {L : List (Slot P)} {ws : List ℕ} (r j : ℕ) (e : Item P) (i : ℕ) (c : Item ℕ)
-        → WalkedAll N view d cs high vs L ws
+        → WalkedAll N block view d cs high vs L ws
         → At cs i c
         → LeafEntry view (c .value) false r j e
         → Mem (record { page = r; index = j; entry = e }) L
@@ -142,76 +132,83 @@ module _ {P : Type 0} (N : ℕ) (view : ℕ → Bool → View P) where
 
   -- ---- the pages visited
   mutual
-    pub kept : {d : ℕ} {t : Bool} {p : ℕ} {low : Key} {high : Option Key} {vs : List ℕ} {L : List (Slot P)} {ws : List ℕ} (r : ℕ)
-        → Walked N view d t p low high vs L ws
-        → memb r vs ≡ true
-        → memb r ws ≡ true
-    kept r (atLeaf {p = p} {vs = vs} i m f o q) e = memb-tail r p vs e
-    kept r (atBranch {p = p} {vs = vs} i m f o w) e = kept-all r w (memb-tail r p vs e)
+    pub kept : {d : ℕ} {t : Bool} {p : ℕ} {low : Key} {high : Option Key} {vs : List ℕ} {L : List (Slot P)} {ws : List ℕ} (k : ℕ)
+        → Walked N block view d t p low high vs L ws
+        → memb k vs ≡ true
+        → memb k ws ≡ true
+    kept k (atLeaf {p = p} {vs = vs} i m f o q g) e = rw g (memb-right k (block p) vs e)
+    kept k (atBranch {p = p} {vs = vs} i m f o w) e = kept-all k w (memb-right k (block p) vs e)
 
-    kept-all : {d : ℕ} {cs : List (Item ℕ)} {high : Option Key} {vs : List ℕ} {L : List (Slot P)} {ws : List ℕ} (r : ℕ)
-        → WalkedAll N view d cs high vs L ws
-        → memb r vs ≡ true
-        → memb r ws ≡ true
-    kept-all r done e = e
-    kept-all r (more w ws q) e = kept-all r ws (kept r w e)
+    kept-all : {d : ℕ} {cs : List (Item ℕ)} {high : Option Key} {vs : List ℕ} {L : List (Slot P)} {ws : List ℕ} (k : ℕ)
+        → WalkedAll N block view d cs high vs L ws
+        → memb k vs ≡ true
+        → memb k ws ≡ true
+    kept-all k done e = e
+    kept-all k (more w ws q) e = kept-all k ws (kept k w e)
 
   mutual
-    pub visited : {d : ℕ} {t : Bool} {p : ℕ} {low : Key} {high : Option Key} {vs : List ℕ} {L : List (Slot P)} {ws : List ℕ} {l r : ℕ} {s : Bool}
-        → Walked N view d t p low high vs L ws
+    pub visited : {d : ℕ} {t : Bool} {p : ℕ} {low : Key} {high : Option Key} {vs : List ℕ} {L : List (Slot P)} {ws : List ℕ} {l r : ℕ} {s : Bool} (k : ℕ)
+        → Walked N block view d t p low high vs L ws
         → Below view p t l r s
-        → memb r ws ≡ true
-    visited (atLeaf {p = p} {vs = vs} i m f o q) b = rw (at-leaf view f b .0) (memb-head p vs)
-    visited (atBranch {p = p} {vs = vs} i m f o w) b =
+        → memb k (block r) ≡ true
+        → memb k ws ≡ true
+    visited k (atLeaf {p = p} {vs = vs} i m f o q g) b e = rw g (memb-left k (block p) vs (rw (at-leaf view f b .0) at e))
+    visited k (atBranch {p = p} {vs = vs} i m f o w) b e =
         ⊎-elim
-        (λ y. kept-all _ w (rw (y .0) (memb-head p vs)))
-        (λ y. visited-all (y .0) (y .1) w (y .3) (y .4))
+        (λ y. kept-all k w (memb-left k (block p) vs (rw (y .0) at e)))
+        (λ y. visited-all k (y .0) (y .1) w (y .3) (y .4) e)
         (at-branch view f b)
 
-    visited-all : {d : ℕ} {cs : List (Item ℕ)} {high : Option Key} {vs : List ℕ} {L : List (Slot P)} {ws : List ℕ} {l r : ℕ} {s : Bool} (i : ℕ) (c : Item ℕ)
-        → WalkedAll N view d cs high vs L ws
+    visited-all : {d : ℕ} {cs : List (Item ℕ)} {high : Option Key} {vs : List ℕ} {L : List (Slot P)} {ws : List ℕ} {l r : ℕ} {s : Bool} (k i : ℕ) (c : Item ℕ)
+        → WalkedAll N block view d cs high vs L ws
         → At cs i c
         → Below view (c .value) false l r s
-        → memb r ws ≡ true
-    visited-all i c done a b = absurd a
-    visited-all {r = r} zero c (more w ws q) a b = kept-all r ws (visited w (rw (← a) at b))
-    visited-all (suc i) c (more w ws q) a b = visited-all i c ws a b
+        → memb k (block r) ≡ true
+        → memb k ws ≡ true
+    visited-all k i c done a b e = absurd a
+    visited-all k zero c (more w ws q) a b e = kept-all k ws (visited k w (rw (← a) at b) e)
+    visited-all k (suc i) c (more w ws q) a b e = visited-all k i c ws a b e
+
+  -- a page of the block of p, or visited before
+  own : (p : ℕ) (t : Bool) (vs : List ℕ) (k : ℕ) → memb k (block p ++ vs) ≡ true → Used view block p t k ⊎ (memb k vs ≡ true)
+  own p t vs k e =
+      ⊎-elim
+      (λ h. inl (record { page = p; reached = record { level = 1; top = t; way = here }; within = h }))
+      (λ h. inr h)
+      (memb-either k (block p) vs e)
 
   mutual
-    pub only : {d : ℕ} {t : Bool} {p : ℕ} {low : Key} {high : Option Key} {vs : List ℕ} {L : List (Slot P)} {ws : List ℕ} (r : ℕ)
-        → Walked N view d t p low high vs L ws
-        → memb r ws ≡ true
-        → Reached view p t r ⊎ (memb r vs ≡ true)
-    only r (atLeaf {t = t} {p = p} {vs = vs} i m f o q) e =
-        ⊎-elim (λ h. inl (record { level = 1; top = t; way = rw h here })) (λ h. inr h) (memb-cases r p vs e)
-    only r (atBranch {t = t} {p = p} {vs = vs} i m f o w) e =
-        ⊎-elim
-        (λ x. inl (record { level = suc (x .2 .level); top = x .2 .top; way = down (x .0) (x .1 .0) f (x .1 .1) (x .2 .way) }))
-        (λ x. ⊎-elim (λ h. inl (record { level = 1; top = t; way = rw h here })) (λ h. inr h) (memb-cases r p vs x))
-        (only-all r w e)
+    pub only : {d : ℕ} {t : Bool} {p : ℕ} {low : Key} {high : Option Key} {vs : List ℕ} {L : List (Slot P)} {ws : List ℕ} (k : ℕ)
+        → Walked N block view d t p low high vs L ws
+        → memb k ws ≡ true
+        → Used view block p t k ⊎ (memb k vs ≡ true)
+    only k (atLeaf {t = t} {p = p} {vs = vs} i m f o q g) e = own p t vs k (rw g at e)
+    only k (atBranch {t = t} {p = p} {vs = vs} i m f o w) e =
+        ⊎-elim (λ x. inl (used-down view (x .0) (x .1 .0) f (x .1 .1) (x .2))) (λ x. own p t vs k x) (only-all k w e)
 
-    only-all : {d : ℕ} {cs : List (Item ℕ)} {high : Option Key} {vs : List ℕ} {L : List (Slot P)} {ws : List ℕ} (r : ℕ)
-        → WalkedAll N view d cs high vs L ws
-        → memb r ws ≡ true
-        → ((i : ℕ) × (x : (c : Item ℕ) × At cs i c) × Reached view (x .0 .value) false r) ⊎ (memb r vs ≡ true)
-    only-all r done e = inr e
-    only-all r (more {c = c} w ws q) e =
+    only-all : {d : ℕ} {cs : List (Item ℕ)} {high : Option Key} {vs : List ℕ} {L : List (Slot P)} {ws : List ℕ} (k : ℕ)
+        → WalkedAll N block view d cs high vs L ws
+        → memb k ws ≡ true
+        → ((i : ℕ) × (x : (c : Item ℕ) × At cs i c) × Used view block (x .0 .value) false k) ⊎ (memb k vs ≡ true)
+    only-all k done e = inr e
+    only-all k (more {c = c} w ws q) e =
         ⊎-elim
         (λ x. inl (suc (x .0), x .1, x .2))
-        (λ x. ⊎-elim (λ h. inl (0, (c, refl), h)) (λ h. inr h) (only r w x))
-        (only-all r ws e)
+        (λ x. ⊎-elim (λ h. inl (0, (c, refl), h)) (λ h. inr h) (only k w x))
+        (only-all k ws e)
 
-  mutual
-    pub distinct : {d : ℕ} {t : Bool} {p : ℕ} {low : Key} {high : Option Key} {vs : List ℕ} {L : List (Slot P)} {ws : List ℕ}
-        → Walked N view d t p low high vs L ws
-        → Distinct vs
-        → Distinct ws
-    distinct (atLeaf i m f o q) x = (m, x)
-    distinct (atBranch i m f o w) x = distinct-all w (m, x)
+  module _ (blocks : (q : ℕ) → Distinct (block q)) where
+    mutual
+      pub distinct : {d : ℕ} {t : Bool} {p : ℕ} {low : Key} {high : Option Key} {vs : List ℕ} {L : List (Slot P)} {ws : List ℕ}
+          → Walked N block view d t p low high vs L ws
+          → Distinct vs
+          → Distinct ws
+      distinct (atLeaf {p = p} {vs = vs} i m f o q g) x = rw g (distinct-append (block p) vs m (blocks p) x)
+      distinct (atBranch {p = p} {vs = vs} i m f o w) x = distinct-all w (distinct-append (block p) vs m (blocks p) x)
 
-    distinct-all : {d : ℕ} {cs : List (Item ℕ)} {high : Option Key} {vs : List ℕ} {L : List (Slot P)} {ws : List ℕ}
-        → WalkedAll N view d cs high vs L ws
-        → Distinct vs
-        → Distinct ws
-    distinct-all done x = x
-    distinct-all (more w ws q) x = distinct-all ws (distinct w x)
+      distinct-all : {d : ℕ} {cs : List (Item ℕ)} {high : Option Key} {vs : List ℕ} {L : List (Slot P)} {ws : List ℕ}
+          → WalkedAll N block view d cs high vs L ws
+          → Distinct vs
+          → Distinct ws
+      distinct-all done x = x
+      distinct-all (more w ws q) x = distinct-all ws (distinct w x)

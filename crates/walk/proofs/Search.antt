@@ -78,17 +78,25 @@ module _ {P : Type 0} where
           L
           within))
 
-module _ {P : Type 0} (N : ℕ) (view : ℕ → Bool → View P) where
+-- a lookup goes by the view of a page within bounds
+pub lookup-at : {P : Type 0} (N : ℕ) (view : ℕ → Bool → View P) (d : ℕ) (t : Bool) (p : ℕ) (key : Key) (v : View P)
+    → inside N p ≡ true
+    → view p t ≡ v
+    → lookup N view (suc d) t p key ≡ lookPage (λ q. lookup N view d false q key) v p key
+unfolding lookup
+lookup-at N view d t p key v i f = rw (i, f)
+
+module _ {P : Type 0} (N : ℕ) (block : ℕ → List ℕ) (view : ℕ → Bool → View P) where
   mutual
     pub ranged : {d : ℕ} {t : Bool} {p : ℕ} {low : Key} {high : Option Key} {vs : List ℕ} {L : List (Slot P)} {ws : List ℕ}
-        → Walked N view d t p low high vs L ws
+        → Walked N block view d t p low high vs L ws
         → Every (λ s. In low high (keyAt s)) L
-    ranged (atLeaf {p = p} {low = low} {high = high} {es = es} i m f o q) = rw q (slots-in low high es p 0 (all-in low high (keys es) 0 o))
+    ranged (atLeaf {p = p} {low = low} {high = high} {es = es} i m f o q g) = rw q (slots-in low high es p 0 (all-in low high (keys es) 0 o))
     ranged (atBranch {low = low} {high = high} {cs = cs} i m f o w) = ranged-all low (all-in low high (keys cs) 0 o) w
 
     ranged-all : {d : ℕ} {cs : List (Item ℕ)} {high : Option Key} {vs : List ℕ} {L : List (Slot P)} {ws : List ℕ} (low : Key)
         → Every (In low high) (keys cs)
-        → WalkedAll N view d cs high vs L ws
+        → WalkedAll N block view d cs high vs L ws
         → Every (λ s. In low high (keyAt s)) L
     ranged-all low h done = tt
     ranged-all low h (more {c = c} {cs = cs} {high = high} {L = L} {M = M} w ws q) =
@@ -101,7 +109,7 @@ module _ {P : Type 0} (N : ℕ) (view : ℕ → Bool → View P) where
   past : {d : ℕ} {cs : List (Item ℕ)} {high : Option Key} {vs : List ℕ} {L : List (Slot P)} {ws : List ℕ} (key : Key)
       → Rising (keys cs)
       → under key (next cs none) ≡ true
-      → WalkedAll N view d cs high vs L ws
+      → WalkedAll N block view d cs high vs L ws
       → Every (λ s. lower key (keyAt s) ≡ true) L
   past key r h done = tt
   past key r h (more {c = c} {cs = cs} {high = high} {L = L} {M = M} w ws q) =
@@ -119,14 +127,14 @@ module _ {P : Type 0} (N : ℕ) (view : ℕ → Bool → View P) where
   module _ (checked : Checked view) where
     mutual
       pub sorted : {d : ℕ} {t : Bool} {p : ℕ} {low : Key} {high : Option Key} {vs : List ℕ} {L : List (Slot P)} {ws : List ℕ}
-          → Walked N view d t p low high vs L ws
+          → Walked N block view d t p low high vs L ws
           → Sorted L
-      sorted (atLeaf {t = t} {p = p} {es = es} i m f o q) = rw q (slots-sorted es p 0 (checked .leaves p t es f))
+      sorted (atLeaf {t = t} {p = p} {es = es} i m f o q g) = rw q (slots-sorted es p 0 (checked .leaves p t es f))
       sorted (atBranch {t = t} {p = p} {cs = cs} i m f o w) = sorted-all (checked .branches p t cs f .1) w
 
       sorted-all : {d : ℕ} {cs : List (Item ℕ)} {high : Option Key} {vs : List ℕ} {L : List (Slot P)} {ws : List ℕ}
           → Rising (keys cs)
-          → WalkedAll N view d cs high vs L ws
+          → WalkedAll N block view d cs high vs L ws
           → Sorted L
       sorted-all r done = tt
       sorted-all r (more {c = c} {cs = cs} {high = high} {L = L} {M = M} w ws q) =
@@ -143,28 +151,21 @@ module _ {P : Type 0} (N : ℕ) (view : ℕ → Bool → View P) where
           (ranged w)))
 
   -- ---- a lookup is a search of all leaf entries
-  pub lookup-at : (d : ℕ) (t : Bool) (p : ℕ) (key : Key) (v : View P)
-      → inside N p ≡ true
-      → view p t ≡ v
-      → lookup N view (suc d) t p key ≡ lookPage (λ q. lookup N view d false q key) v p key
-  unfolding lookup
-  lookup-at d t p key v i f = rw (i, f)
-
   module _ (checked : Checked view) (key : Key) where
     mutual
       unfolding lookPage
 
       pub searched : {d : ℕ} {t : Bool} {p : ℕ} {low : Key} {high : Option Key} {vs : List ℕ} {L : List (Slot P)} {ws : List ℕ}
-          → Walked N view d t p low high vs L ws
+          → Walked N block view d t p low high vs L ws
           → lookup N view d t p key ≡ seek L key
-      searched (atLeaf {d = d} {t = t} {p = p} {es = es} i m f o q) = lookup-at d t p key (leaf es) i f ∙ rw q (seek-slots es key p 0)
+      searched (atLeaf {d = d} {t = t} {p = p} {es = es} i m f o q g) = lookup-at N view d t p key (leaf es) i f ∙ rw q (seek-slots es key p 0)
       searched (atBranch {d = d} {t = t} {p = p} {cs = cs} i m f o w) =
-          lookup-at d t p key (branch cs) i f ∙ searched-all (checked .branches p t cs f .0) (checked .branches p t cs f .1) w
+          lookup-at N view d t p key (branch cs) i f ∙ searched-all (checked .branches p t cs f .0) (checked .branches p t cs f .1) w
 
       searched-all : {d : ℕ} {cs : List (Item ℕ)} {high : Option Key} {vs : List ℕ} {L : List (Slot P)} {ws : List ℕ}
           → (cs ≡ [] → ⊥)
           → Rising (keys cs)
-          → WalkedAll N view d cs high vs L ws
+          → WalkedAll N block view d cs high vs L ws
           → lookup N view d false (childFor cs key) key ≡ seek L key
       searched-all f r done = absurd (f refl)
       searched-all f r (more {d = d} {c = c} {cs = cs} {high = high} {L = L} {M = M} w ws q) =

@@ -1,4 +1,4 @@
--- What a walk that passes says of a tree: no lookup is refused, each finds exactly what is there, no key is there twice, and the walk has counted all entries and all pages.
+-- What a walk that passes says of a tree: no lookup is refused, each finds exactly what is there, no key is there twice, and the walk has counted all entries and all pages of the blocks. Passing or not, a lookup and a walk go by the pages reached alone.
 -- Assumes what a page's own check has seen to, `Checked`.
 use Prim.Native.Nat.{ℕ}
 use native.Mathlib.Omega.{arith}
@@ -8,7 +8,7 @@ use mathlib.Core.Bool.{Bool, true}
 use mathlib.Core.Option.{none}
 use mathlib.Core.Logic.{_↔_, ⊎-elim}
 use lib.ListN.{length}
-use Rattle.walk.specs.Tree.{Key, Item, View, memb, Distinct, pass, walk, Answer, refused, found, absent, lookup, Reached, LeafEntry, Checked}
+use Rattle.walk.specs.Tree.{Key, Item, View, memb, Distinct, pass, walk, Answer, refused, found, absent, lookup, Reached, Used, LeafEntry, Checked}
 use Rattle.walk.specs.Listing.{Slot, Listing}
 use Rattle.walk.proofs.Slots.{seek, Sought, hit, miss, sought, sorted-one}
 use Rattle.walk.proofs.Walked.{Walked, walked}
@@ -20,14 +20,15 @@ use Rattle.walk.proofs.Reach.{entered, listed, visited, only, distinct}
 
 module _ {P : Type 0}
     (N : ℕ)
+    (block : ℕ → List ℕ)
     (view : ℕ → Bool → View P)
     (checked : Checked view)
     (root n : ℕ)
     (vs : List ℕ)
-    (passes : walk N view 16 true root [] none [] ≡ pass n vs)
+    (passes : walk N block view 16 true root [] none [] ≡ pass n vs)
   where
-    how : (L : List (Slot P)) × Walked N view 16 true root [] none [] L vs × (n ≡ length L)
-    how = walked N view 16 true root [] none [] n vs passes
+    how : (L : List (Slot P)) × Walked N block view 16 true root [] none [] L vs × (n ≡ length L)
+    how = walked N block view 16 true root [] none [] n vs passes
 
     pub listing : Listing view root n
     listing =
@@ -35,21 +36,21 @@ module _ {P : Type 0}
         record {
           all = h .0;
           counted = h .2;
-          rising = sorted N view checked (h .1);
-          exact = λ s. (λ m. entered N view s (h .1) m, λ x. listed N view (s .page) (s .index) (s .entry) (h .1) x);
+          rising = sorted N block view checked (h .1);
+          exact = λ s. (λ m. entered N block view s (h .1) m, λ x. listed N block view (s .page) (s .index) (s .entry) (h .1) x);
         }
 
     -- a lookup is a search of all entries from the front
     pub lookup-searches : (key : Key) → lookup N view 16 true root key ≡ seek (listing .all) key
     unfolding listing
-    lookup-searches key = searched N view checked key (how .1)
+    lookup-searches key = searched N block view checked key (how .1)
 
     answer : (key : Key) → Sought (listing .all) key (lookup N view 16 true root key)
     answer key = rw (lookup-searches key) (sought (listing .all) key)
 
     -- a lookup comes to a leaf that is reached, by level 16
     pub lands : (key : Key) → Landed N view key 16 true root
-    lands key = landed N view checked key (how .1)
+    lands key = landed N block view checked key (how .1)
 
     -- T1
     pub never-refused : (key : Key) (r p e : ℕ) → lookup N view 16 true root key ≡ refused r p e → ⊥
@@ -110,14 +111,16 @@ module _ {P : Type 0}
         (ap (λ (s : Slot P). s .page) o, ap (λ (s : Slot P). s .index) o, ap (λ (s : Slot P). s .entry) o)
 
     -- T4, with `listing` for the entries
-    pub each-once : Distinct vs
-    each-once = distinct N view (how .1) tt
+    pub each-once : ((q : ℕ) → Distinct (block q)) → Distinct vs
+    each-once blocks = distinct N block view blocks (how .1) tt
 
-    pub pages-exact : (q : ℕ) → (memb q vs ≡ true) ↔ Reached view root true q
-    pages-exact q =
-        (λ e. ⊎-elim (λ x. x) (λ h. absurd (let z : _≡_ {A = ℕ} 0 1 = cc in omega arith)) (only N view q (how .1) e), λ x. visited N view (how .1) (x .way))
+    pub pages-exact : (k : ℕ) → (memb k vs ≡ true) ↔ Used view block root true k
+    pages-exact k = (
+      λ e. ⊎-elim (λ x. x) (λ h. absurd (let z : _≡_ {A = ℕ} 0 1 = cc in omega arith)) (only N block view k (how .1) e),
+      λ x. visited N block view k (how .1) (x .reached .way) (x .within),
+    )
 
-    -- so n and the length of vs are the numbers of the entries and of the pages reached: any sorted listing of just these entries has n, and any list of just these pages, each once, is as long as vs
+    -- so n and the length of vs are the numbers of the entries and of the pages of the blocks reached: any sorted listing of just these entries has n, and any list of just these pages, each once, is as long as vs
     pub entries-counted : (m : ℕ) → Listing view root m → m ≡ n
     entries-counted m l =
         let e =
@@ -127,16 +130,29 @@ module _ {P : Type 0}
         in
         l .counted ∙ ap length e ∙ sym (listing .counted)
 
-    pub pages-counted : (ps : List ℕ) → Distinct ps → ((q : ℕ) → (memb q ps ≡ true) ↔ Reached view root true q) → length ps ≡ length vs
-    pages-counted ps d h =
-        let a = no-longer ps vs d (λ q e. pages-exact q .1 (h q .0 e)) in
-        let b = no-longer vs ps each-once (λ q e. h q .1 (pages-exact q .0 e)) in
+    pub pages-counted : ((q : ℕ) → Distinct (block q))
+        → (ps : List ℕ)
+        → Distinct ps
+        → ((k : ℕ) → (memb k ps ≡ true) ↔ Used view block root true k)
+        → length ps ≡ length vs
+    pages-counted blocks ps d h =
+        let a = no-longer ps vs d (λ k e. pages-exact k .1 (h k .0 e)) in
+        let b = no-longer vs ps (each-once blocks) (λ k e. h k .1 (pages-exact k .0 e)) in
         omega arith
 
-    -- T5, by the pages visited: another view that agrees on these has the same verdict and the same answers
-    module _ (view′ : ℕ → Bool → View P) (agrees : (q : ℕ) (s : Bool) → memb q vs ≡ true → view′ q s ≡ view q s) where
-      pub walk-framed : walk N view′ 16 true root [] none [] ≡ pass n vs
-      walk-framed = walk-frame N view view′ 16 true root [] none [] (λ l q s w. agrees q s (visited N view (how .1) w)) ∙ passes
+-- T5, by the pages reached, whether or not the walk passes: another view that agrees on these has the same answers, and where the blocks agree too the same verdict
+module _ {P : Type 0}
+    (N : ℕ)
+    (view view′ : ℕ → Bool → View P)
+    (root : ℕ)
+    (agrees : (q : ℕ) (s : Bool) → Reached view root true q → view′ q s ≡ view q s)
+  where
+    pub lookup-framed : (key : Key) → lookup N view′ 16 true root key ≡ lookup N view 16 true root key
+    lookup-framed key = lookup-frame N view view′ 16 true root key (λ l q s w. agrees q s (record { level = l; top = s; way = w }))
 
-      pub lookup-framed : (key : Key) → lookup N view′ 16 true root key ≡ lookup N view 16 true root key
-      lookup-framed key = lookup-frame N view view′ 16 true root key (λ l q s w. agrees q s (visited N view (how .1) w))
+    pub walk-framed : (block block′ : ℕ → List ℕ)
+        → ((q : ℕ) → Reached view root true q → block′ q ≡ block q)
+        → walk N block′ view′ 16 true root [] none [] ≡ walk N block view 16 true root [] none []
+    walk-framed block block′ same =
+        walk-frame N block block′ view view′ 16 true root [] none []
+        (λ l q s w. let r : Reached view root true q = record { level = l; top = s; way = w } in (agrees q s r, same q r))

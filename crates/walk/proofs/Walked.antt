@@ -7,26 +7,27 @@ use mathlib.Core.List.{List, [], _∷_, _++_}
 use mathlib.Core.Bool.{Bool, true, false, cond}
 use mathlib.Core.Option.{Option, none, some}
 use lib.ListN.{length, length-append}
-use Rattle.walk.specs.Tree.{Key, Item, View, bad, branch, leaf, keys, memb, inside, Verdict, pass, fault, ifPassed, firstOut, unlessOut, next, walkAll, walkPage, walk}
+use Rattle.walk.specs.Tree.{Key, Item, View, bad, branch, leaf, keys, firstIn, inside, Verdict, pass, fault, ifPassed, firstOut, unlessTwice, unlessOut, next, walkAll, walkPage, walk}
 use Rattle.walk.specs.Listing.{Slot}
 use Rattle.walk.proofs.Slots.{slots, length-slots}
 
-module _ {P : Type 0} (N : ℕ) (view : ℕ → Bool → View P) where
+module _ {P : Type 0} (N : ℕ) (block : ℕ → List ℕ) (view : ℕ → Bool → View P) where
   mutual
     pub data Walked : ℕ → Bool → ℕ → Key → Option Key → List ℕ → List (Slot P) → List ℕ → Type 0 where
-      atLeaf : {d : ℕ} {t : Bool} {p : ℕ} {low : Key} {high : Option Key} {vs : List ℕ} {es : List (Item P)} {L : List (Slot P)}
+      atLeaf : {d : ℕ} {t : Bool} {p : ℕ} {low : Key} {high : Option Key} {vs : List ℕ} {es : List (Item P)} {L : List (Slot P)} {ws : List ℕ}
           → inside N p ≡ true
-          → memb p vs ≡ false
+          → firstIn (block p) vs ≡ none
           → view p t ≡ leaf es
           → firstOut low high (keys es) 0 ≡ none
           → L ≡ slots p 0 es
-          → Walked (suc d) t p low high vs L (p ∷ vs)
+          → ws ≡ block p ++ vs
+          → Walked (suc d) t p low high vs L ws
       atBranch : {d : ℕ} {t : Bool} {p : ℕ} {low : Key} {high : Option Key} {vs : List ℕ} {cs : List (Item ℕ)} {L : List (Slot P)} {ws : List ℕ}
           → inside N p ≡ true
-          → memb p vs ≡ false
+          → firstIn (block p) vs ≡ none
           → view p t ≡ branch cs
           → firstOut low high (keys cs) 0 ≡ none
-          → WalkedAll d cs high (p ∷ vs) L ws
+          → WalkedAll d cs high (block p ++ vs) L ws
           → Walked (suc d) t p low high vs L ws
 
     pub data WalkedAll : ℕ → List (Item ℕ) → Option Key → List ℕ → List (Slot P) → List ℕ → Type 0 where
@@ -41,13 +42,13 @@ module _ {P : Type 0} (N : ℕ) (view : ℕ → Bool → View P) where
   abbrev Passed : ℕ → Bool → Type 0
   Passed d t =
       (p : ℕ) (low : Key) (high : Option Key) (vs : List ℕ) (n : ℕ) (ws : List ℕ)
-      → walk N view d t p low high vs ≡ pass n ws
+      → walk N block view d t p low high vs ≡ pass n ws
       → (L : List (Slot P)) × Walked d t p low high vs L ws × (n ≡ length L)
 
   walked-all : (d : ℕ)
       → Passed d false
       → (cs : List (Item ℕ)) (high : Option Key) (m : ℕ) (vs : List ℕ) (n : ℕ) (ws : List ℕ)
-      → walkAll (walk N view d false) cs high m vs ≡ pass n ws
+      → walkAll (walk N block view d false) cs high m vs ≡ pass n ws
       → (L : List (Slot P)) × WalkedAll d cs high vs L ws × (n ≡ m + length L)
   unfolding walkAll
   walked-all d ih [] high m vs n ws e =
@@ -55,13 +56,13 @@ module _ {P : Type 0} (N : ℕ) (view : ℕ → Bool → View P) where
       let r : m ≡ n = cc in
       ([], rw (← q) done, omega arith)
   walked-all d ih (c ∷ cs) high m vs n ws e =
-      go (walk N view d false (c .value) (c .key) (next cs high) vs) refl e (λ k us. walked-all d ih cs high (m + k) us n ws)
+      go (walk N block view d false (c .value) (c .key) (next cs high) vs) refl e (λ k us. walked-all d ih cs high (m + k) us n ws)
     where
       go : (v : Verdict)
-          → walk N view d false (c .value) (c .key) (next cs high) vs ≡ v
-          → ifPassed v (λ k us. walkAll (walk N view d false) cs high (m + k) us) ≡ pass n ws
+          → walk N block view d false (c .value) (c .key) (next cs high) vs ≡ v
+          → ifPassed v (λ k us. walkAll (walk N block view d false) cs high (m + k) us) ≡ pass n ws
           → ((k : ℕ) (us : List ℕ)
-          → walkAll (walk N view d false) cs high (m + k) us ≡ pass n ws
+          → walkAll (walk N block view d false) cs high (m + k) us ≡ pass n ws
           → (L : List (Slot P)) × WalkedAll d cs high us L ws × (n ≡ (m + k) + length L))
           → (L : List (Slot P)) × WalkedAll d (c ∷ cs) high vs L ws × (n ≡ m + length L)
       go (pass k us) f g rest =
@@ -74,10 +75,10 @@ module _ {P : Type 0} (N : ℕ) (view : ℕ → Bool → View P) where
       → Passed d false
       → (p : ℕ) (low : Key) (high : Option Key) (vs : List ℕ) (n : ℕ) (ws : List ℕ)
       → inside N p ≡ true
-      → memb p vs ≡ false
+      → firstIn (block p) vs ≡ none
       → (v : View P)
       → view p t ≡ v
-      → walkPage (walk N view d false) v p low high (p ∷ vs) ≡ pass n ws
+      → walkPage (walk N block view d false) v p low high (block p ++ vs) ≡ pass n ws
       → (L : List (Slot P)) × Walked (suc d) t p low high vs L ws × (n ≡ length L)
   unfolding walkPage
   walked-page d t ih p low high vs n ws i m (bad r x) f e = absurd (let z : _≡_ {A = ℕ} 0 1 = cc in omega arith)
@@ -85,36 +86,36 @@ module _ {P : Type 0} (N : ℕ) (view : ℕ → Bool → View P) where
     where
       go : (o : Option ℕ)
           → firstOut low high (keys cs) 0 ≡ o
-          → unlessOut o p (walkAll (walk N view d false) cs high 0 (p ∷ vs)) ≡ pass n ws
+          → unlessOut o p (walkAll (walk N block view d false) cs high 0 (block p ++ vs)) ≡ pass n ws
           → (L : List (Slot P)) × Walked (suc d) t p low high vs L ws × (n ≡ length L)
       go none o e =
-          let a = walked-all d ih cs high 0 (p ∷ vs) n ws e in
+          let a = walked-all d ih cs high 0 (block p ++ vs) n ws e in
           (a .0, atBranch i m f o (a .1), (let x = a .2 in omega arith))
       go (some j) o e = absurd (let z : _≡_ {A = ℕ} 0 1 = cc in omega arith)
   walked-page d t ih p low high vs n ws i m (leaf es) f e = go (firstOut low high (keys es) 0) refl e
     where
       go : (o : Option ℕ)
           → firstOut low high (keys es) 0 ≡ o
-          → unlessOut o p (pass (length es) (p ∷ vs)) ≡ pass n ws
+          → unlessOut o p (pass (length es) (block p ++ vs)) ≡ pass n ws
           → (L : List (Slot P)) × Walked (suc d) t p low high vs L ws × (n ≡ length L)
       go none o e =
-          let q : p ∷ vs ≡ ws = cc in
+          let q : block p ++ vs ≡ ws = cc in
           let r : length es ≡ n = cc in
-          (slots p 0 es, rw (← q) (atLeaf i m f o refl), sym r ∙ sym (length-slots p 0 es))
+          (slots p 0 es, atLeaf i m f o refl (sym q), sym r ∙ sym (length-slots p 0 es))
       go (some j) o e = absurd (let z : _≡_ {A = ℕ} 0 1 = cc in omega arith)
 
   pub walked : (d : ℕ) (t : Bool) → Passed d t
   unfolding walk
   walked zero t p low high vs n ws e = absurd (let z : _≡_ {A = ℕ} 0 1 = cc in omega arith)
-  walked (suc d) t p low high vs n ws e = go (inside N p) refl (memb p vs) refl e (walked d false)
+  walked (suc d) t p low high vs n ws e = go (inside N p) refl (firstIn (block p) vs) refl e (walked d false)
     where
       go : (b : Bool)
           → inside N p ≡ b
-          → (u : Bool)
-          → memb p vs ≡ u
-          → cond b (cond u (fault 8 p 0) (walkPage (walk N view d false) (view p t) p low high (p ∷ vs))) (fault 2 p 0) ≡ pass n ws
+          → (u : Option ℕ)
+          → firstIn (block p) vs ≡ u
+          → cond b (unlessTwice u (walkPage (walk N block view d false) (view p t) p low high (block p ++ vs))) (fault 2 p 0) ≡ pass n ws
           → Passed d false
           → (L : List (Slot P)) × Walked (suc d) t p low high vs L ws × (n ≡ length L)
-      go true i false m f ih = walked-page d t ih p low high vs n ws i m (view p t) refl f
-      go true i true m f ih = absurd (let z : _≡_ {A = ℕ} 0 1 = cc in omega arith)
+      go true i none m f ih = walked-page d t ih p low high vs n ws i m (view p t) refl f
+      go true i (some k) m f ih = absurd (let z : _≡_ {A = ℕ} 0 1 = cc in omega arith)
       go false i u m f ih = absurd (let z : _≡_ {A = ℕ} 0 1 = cc in omega arith)

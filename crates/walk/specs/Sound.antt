@@ -1,11 +1,11 @@
--- What a sound tree is, in words, with no walk: each page that is reached is few enough levels down, in bounds, not refused, and with all its keys within the range that it is reached with; and no page is reached by two ways.
+-- What a sound tree is, in words, with no walk: each page that is reached is few enough levels down, in bounds, not refused, and with all its keys within the range that it is reached with; and no page is one of two blocks reached, nor of one block reached by two ways.
 use Prim.Native.Nat.{ℕ, zero, suc, _≤_, _<_}
 use mathlib.Core.Path.{_≡_}
 use mathlib.Core.List.{List, [], _∷_}
 use mathlib.Core.Bool.{Bool, true, false}
 use mathlib.Core.Option.{Option}
 use lib.ListN.{length}
-use Rattle.walk.specs.Tree.{Key, inRange, Item, View, bad, branch, leaf, keys, next, Every}
+use Rattle.walk.specs.Tree.{Key, inRange, Item, View, bad, branch, leaf, keys, next, memb, Every}
 
 -- c is child i of a branch, and its range ends so
 abbrev pub ChildAt : List (Item ℕ) → Option Key → ℕ → Item ℕ → Option Key → Type 0
@@ -35,10 +35,12 @@ module _ {P : Type 0} (view : ℕ → Bool → View P) where
     pub seen : (r e : ℕ) → view q s ≡ bad r e → ⊥
     pub ranged : Every (λ k. inRange low high k ≡ true) (keysOn (view q s))
 
-  -- page p, with its range, is the root of a sound tree of at most d levels
-  pub record Sound (N d p : ℕ) (t : Bool) (low : Key) (high : Option Key) : Type 0 where
+  -- page p, with its range, is the root of a sound tree of at most d levels; `block` tells the pages of a page's block
+  pub record Sound (block : ℕ → List ℕ) (N d p : ℕ) (t : Bool) (low : Key) (high : Option Key) : Type 0 where
     pub each : (is : List ℕ) (q : ℕ) (s : Bool) (lo : Key) (hi : Option Key) → Way p t low high is q s lo hi → Fits N d is q s lo hi
-    pub once : (is : List ℕ) (q : ℕ) (s : Bool) (lo : Key) (hi : Option Key) (js : List ℕ) (u : Bool) (lo′ : Key) (hi′ : Option Key)
+    pub once : (k : ℕ) (is : List ℕ) (q : ℕ) (s : Bool) (lo : Key) (hi : Option Key) (js : List ℕ) (r : ℕ) (u : Bool) (lo′ : Key) (hi′ : Option Key)
         → Way p t low high is q s lo hi
-        → Way p t low high js q u lo′ hi′
+        → Way p t low high js r u lo′ hi′
+        → memb k (block q) ≡ true
+        → memb k (block r) ≡ true
         → is ≡ js

@@ -2,7 +2,7 @@
 -- What stands on a page is given by a `view`, a parameter: this file knows nothing of bytes.
 use Prim.Native.Nat.{ℕ, zero, suc, _+_}
 use mathlib.Core.Path.{_≡_}
-use mathlib.Core.List.{List, [], _∷_}
+use mathlib.Core.List.{List, [], _∷_, _++_}
 use mathlib.Core.Bool.{Bool, true, false, not, _&&_, _||_, cond}
 use mathlib.Core.Option.{Option, none, some}
 use lib.Dec.{leb, ltb, eqb}
@@ -70,12 +70,17 @@ abbrev pub Distinct : List ℕ → Type 0
 Distinct [] = Unit
 Distinct (p ∷ ps) = (memb p ps ≡ false) × Distinct ps
 
+-- the first of these pages that is one of those
+unfoldable pub firstIn : List ℕ → List ℕ → Option ℕ
+firstIn [] vs = none
+firstIn (p ∷ ps) vs = cond (memb p vs) (some p) (firstIn ps vs)
+
 -- the pages of a file of N pages that can be in a tree: 2 to N - 1
 abbrev pub inside : ℕ → ℕ → Bool
 inside N p = leb 2 p && ltb p N
 
 -- ---- the judge
--- how many entries and the pages visited, or a breach's number, page and element
+-- how many entries and the pages of the blocks visited, or a breach's number, page and element
 pub data Verdict : Type 0 where
   pass : ℕ → List ℕ → Verdict
   fault : ℕ → ℕ → ℕ → Verdict
@@ -88,6 +93,11 @@ ifPassed (fault r p e) k = fault r p e
 unfoldable pub firstOut : Key → Option Key → List Key → ℕ → Option ℕ
 firstOut low high [] i = none
 firstOut low high (k ∷ ks) i = cond (inRange low high k) (firstOut low high ks (suc i)) (some i)
+
+-- rule 3, whose number is 8 and which names the lowest page that was visited before, and then the verdict
+abbrev pub unlessTwice : Option ℕ → Verdict → Verdict
+unlessTwice none v = v
+unlessTwice (some page) v = fault 8 page 0
 
 -- rule 8, whose number is 7, and then the verdict
 abbrev pub unlessOut : Option ℕ → ℕ → Verdict → Verdict
@@ -134,15 +144,17 @@ lookPage go (bad r e) page key = refused r page e
 lookPage go (branch cs) page key = go (childFor cs key)
 lookPage go (leaf es) page key = seekFrom es key page 0
 
--- ---- the tree, by the number of pages and the view of each, as the root's level or below
-module _ {P : Type 0} (N : ℕ) (view : ℕ → Bool → View P) where
+-- ---- the tree, by the number of pages, the pages of each one's block, rising, and the view of each, as the root's level or below
+-- a page whose header is refused has no block: rule 3 finds nothing there, and the view refuses it
+module _ {P : Type 0} (N : ℕ) (block : ℕ → List ℕ) (view : ℕ → Bool → View P) where
   unfoldable pub walk : ℕ → Bool → ℕ → Key → Option Key → List ℕ → Verdict
   walk zero top page low high vs = fault 9 page 0
   walk (suc d) top page low high vs =
       cond (inside N page)
-      (cond (memb page vs) (fault 8 page 0) (walkPage (walk d false) (view page top) page low high (page ∷ vs)))
+      (unlessTwice (firstIn (block page) vs) (walkPage (walk d false) (view page top) page low high (block page ++ vs)))
       (fault 2 page 0)
 
+module _ {P : Type 0} (N : ℕ) (view : ℕ → Bool → View P) where
   unfoldable pub lookup : ℕ → Bool → ℕ → Key → Answer P
   lookup zero top page key = refused 9 page 0
   lookup (suc d) top page key = cond (inside N page) (lookPage (λ p. lookup d false p key) (view page top) page key) (refused 2 page 0)
@@ -170,6 +182,12 @@ module _ {P : Type 0} (view : ℕ → Bool → View P) where
     pub level : ℕ
     pub top : Bool
     pub way : Below p t level q top
+
+  -- page k is one of a block that is reached from page p
+  pub record Used (block : ℕ → List ℕ) (p : ℕ) (t : Bool) (k : ℕ) : Type 0 where
+    pub page : ℕ
+    pub reached : Reached p t page
+    pub within : memb k (block page) ≡ true
 
   -- e is entry i of the leaf q, which is reached from page p
   pub record LeafEntry (p : ℕ) (t : Bool) (q i : ℕ) (e : Item P) : Type 0 where
