@@ -92,7 +92,7 @@ impl Subject for Reading {
     fn judge(&self, image: &[u8], p: u64, n: u64, root: u64, freelist: u64, answer: &mut [u8]) -> u64 {
         give(answer, named(2), || {
             let sound = judge::judge(image, p, n, root, freelist)?;
-            Ok(vec![sound.entries, sound.blocks])
+            Ok(vec![sound.entries, sound.pages])
         })
     }
 

@@ -41,7 +41,7 @@ const PARTS: [Part; 15] = [
     Part { name: "hostile", against: "the reading", run: parts::hostile::run, rounds: 300 },
     Part { name: "findings", against: "docs/DIFFERENCES.md", run: parts::findings::run, rounds: 1 },
     Part { name: "files", against: "the crate", run: parts::files::run, rounds: 1 },
-    Part { name: "damaged", against: "the reading", run: parts::damaged::run, rounds: 60 },
+    Part { name: "damaged", against: "the reading", run: parts::damaged::run, rounds: 400 },
     Part { name: "short", against: "the crate", run: parts::short::run, rounds: 1 },
 ];
 

@@ -1,15 +1,16 @@
-//! "A sound image": the judge's walk over a tree, then the freelist page.
+//! "A sound image": the judge's walk over a tree, then the freelist page. Rule 3 as 02's order 3 has it: directly after
+//! rule 4, over every page of the block.
 
 use crate::block::{block_bytes, page_block, Block};
 use crate::layout::*;
 use crate::lookup::check_reached;
 use crate::Fault;
 
-/// What a passing image answers: leaf entries, and blocks reached with the freelist block.
+/// What a passing image answers: leaf entries, and pages reached with those of the freelist block.
 #[derive(Clone, Copy, Debug, PartialEq, Eq)]
 pub struct Sound {
     pub entries: u64,
-    pub blocks: u64,
+    pub pages: u64,
 }
 
 /// The keys a page may hold: from `low` up to, not including, `high` where there is one.
@@ -33,15 +34,15 @@ pub fn judge(image: &[u8], p: u64, n: u64, root: u64, freelist: u64) -> Result<S
     let mut walk = Walk { image, p, n, marks: vec![false; MAX_PAGES as usize], entries: 0 };
     walk.subtree(root, 1, Range { low: &[], high: None })?;
     walk.freelist(freelist)?;
-    let blocks = walk.marks.iter().filter(|mark| **mark).count() as u64;
-    Ok(Sound { entries: walk.entries, blocks })
+    let pages = walk.marks.iter().filter(|mark| **mark).count() as u64;
+    Ok(Sound { entries: walk.entries, pages })
 }
 
 impl<'a> Walk<'a> {
-    /// Rules 1 to 8 for this page, then its children in order.
+    /// Rules 1, 2, 4, 3 and 5 to 8 for this page, then its children in order.
     fn subtree(&mut self, page: u64, level: u64, range: Range<'a>) -> Result<(), Fault> {
         check_reached(page, level, self.n)?;
-        self.mark(page)?;
+        self.mark_block(page, &[BRANCH, LEAF])?;
         let block = page_block(self.image, self.p, self.n, page, level == 1)?;
         check_range(&block, page, range)?;
         if block.leaf {
@@ -55,21 +56,22 @@ impl<'a> Walk<'a> {
         Ok(())
     }
 
-    /// Rule 3: a page number is reached once.
-    fn mark(&mut self, page: u64) -> Result<(), Fault> {
-        let mark = &mut self.marks[page as usize];
-        if *mark {
-            return Err(Fault { number: 8, page, element: 0 });
+    /// Rule 4 with these types, then rule 3: every page of the block is used once. The block's bytes.
+    fn mark_block(&mut self, page: u64, kinds: &[u8]) -> Result<&'a [u8], Fault> {
+        let bytes = block_bytes(self.image, self.p, self.n, page, kinds)?;
+        let end = page + bytes.len() as u64 / self.p;
+        let marks = &mut self.marks[page as usize..end as usize];
+        if let Some(i) = marks.iter().position(|mark| *mark) {
+            return Err(Fault { number: 8, page: page + i as u64, element: 0 });
         }
-        *mark = true;
-        Ok(())
+        marks.fill(true);
+        Ok(bytes)
     }
 
-    /// Rules 2 to 5 for the freelist page, then its ids, each rule over all of them before the next.
+    /// Rules 2, 4, 3 and 5 for the freelist page, then its ids, each rule over all of them before the next.
     fn freelist(&mut self, page: u64) -> Result<(), Fault> {
         check_reached(page, 1, self.n)?;
-        self.mark(page)?;
-        let bytes = block_bytes(self.image, self.p, self.n, page, &[FREELIST])?;
+        let bytes = self.mark_block(page, &[FREELIST])?;
         let count = header(bytes).count;
         if TABLE_START as u128 + u128::from(count) * 8 > bytes.len() as u128 {
             return Err(Fault { number: 4, page, element: 0 });

@@ -35,7 +35,7 @@ pub trait Subject {
 
     /// Fields: found, kind, place, length, page, element.
     fn lookup(&self, image: &[u8], p: u64, n: u64, root: u64, key: &[u8], answer: &mut [u8]) -> u64;
-    /// Fields: entries, blocks, page, element.
+    /// Fields: entries, pages, page, element.
     fn judge(&self, image: &[u8], p: u64, n: u64, root: u64, freelist: u64, answer: &mut [u8]) -> u64;
 
     /// Fields: the page taken, pagesize, root_page, next_int, num_pages, freelist_page, tx_id.

@@ -3,7 +3,9 @@
 pub mod block;
 pub mod content;
 pub mod fields;
+pub mod image;
 pub mod loose;
+pub mod overlap;
 pub mod store;
 pub mod tree;
 

@@ -1,23 +1,19 @@
-//! Sound images with a tree whose entries and blocks are known.
+//! Sound images with a tree whose entries and pages are known.
 
 use oracle::probe::{write_content, Content, Item};
 
 use super::content;
 use super::fields::{freelist_block, put};
+use super::image::{Image, Span};
 use super::loose::spread;
 use crate::rng::Rng;
 
 /// A sound image and what is in it.
-#[derive(Clone)]
 pub struct Tree {
-    pub image: Vec<u8>,
-    pub p: u64,
-    pub n: u64,
-    pub root: u64,
-    pub freelist: u64,
+    pub image: Image,
     pub items: Vec<Item>,
-    /// The first page of each block, the freelist's last.
-    pub blocks: Vec<u64>,
+    /// Every block, the freelist's last.
+    pub spans: Vec<Span>,
 }
 
 /// A node in the making: its tags are places in the list of nodes until pages are known.
@@ -31,6 +27,8 @@ struct Node {
 pub struct Shape {
     pub p: u64,
     pub entries: usize,
+    /// Values are mostly short, at times of up to so many bytes or three times as many.
+    pub value: u64,
     pub levels: usize,
     pub fanout: usize,
 }
@@ -40,29 +38,32 @@ pub fn shape(rng: &mut Rng) -> Shape {
     let large = rng.one_in(4);
     let p = if large { super::page_size(rng) } else { super::small_page_size(rng) };
     let entries = if large { rng.pick(&[1, 5, 20]) } else { rng.pick(&[0, 1, 2, 5, 20, 60, 150]) };
-    Shape { p, entries, levels: rng.pick(&[1, 1, 2, 3, 4, 15, 16]), fanout: rng.pick(&[2, 4, 9]) }
+    let value = rng.pick(&[p / 8, p / 8, p]);
+    Shape { p, entries, value, levels: rng.pick(&[1, 1, 2, 3, 4, 15, 16]), fanout: rng.pick(&[2, 4, 9]) }
 }
 
 /// A random sound image of this shape.
 pub fn tree(rng: &mut Rng, shape: &Shape) -> Tree {
-    let items = content::content(rng, true, shape.entries, shape.p / 8).items;
+    let items = content::content(rng, true, shape.entries, shape.value).items;
     let nodes = nodes(rng, &items, shape);
     let mut sizes: Vec<u64> = nodes.iter().map(|node| pages(rng, &node.content, shape.p)).collect();
     sizes.push(rng.between(1, 2));
     let (starts, n) = place(rng, &sizes);
-    let mut image = rng.bytes((n * shape.p) as usize);
+    let spans: Vec<Span> = starts.iter().copied().zip(sizes).collect();
+    let mut bytes = rng.bytes((n * shape.p) as usize);
+    let mut put_block = |block: Vec<u8>, first: u64| {
+        let at = (first * shape.p) as usize;
+        bytes[at..at + block.len()].copy_from_slice(&block);
+    };
     for (i, node) in nodes.iter().enumerate() {
-        let block = block(rng, node, &starts, i, sizes[i], shape.p);
-        let at = (starts[i] * shape.p) as usize;
-        image[at..at + block.len()].copy_from_slice(&block);
+        put_block(block(rng, node, &starts, spans[i], shape.p), starts[i]);
     }
-    let freelist = starts[nodes.len()];
-    let ids: Vec<u64> =
-        (2..n).filter(|id| !starts.contains(id) && rng.one_in(2)).take(shape.p as usize / 8 - 4).collect();
-    let block = freelist_block(shape.p, freelist, sizes[nodes.len()], &ids);
-    let at = (freelist * shape.p) as usize;
-    image[at..at + block.len()].copy_from_slice(&block);
-    Tree { image, p: shape.p, n, root: starts[nodes.len() - 1], freelist, items, blocks: starts }
+    let (freelist, pages) = spans[nodes.len()];
+    let used = |id: &u64| spans.iter().any(|(first, pages)| (*first..first + pages).contains(id));
+    let ids: Vec<u64> = (2..n).filter(|id| !used(id) && rng.one_in(2)).take(shape.p as usize / 8 - 4).collect();
+    put_block(freelist_block(shape.p, freelist, pages, &ids), freelist);
+    let image = Image { bytes, p: shape.p, n, root: starts[nodes.len() - 1], freelist };
+    Tree { image, items, spans }
 }
 
 /// Leaves, then level above level, the root last.
@@ -143,15 +144,15 @@ pub fn place(rng: &mut Rng, sizes: &[u64]) -> (Vec<u64>, u64) {
 }
 
 /// The bytes of a node's block: as the crate writes it, or spread.
-fn block(rng: &mut Rng, node: &Node, starts: &[u64], place: usize, pages: u64, p: u64) -> Vec<u8> {
+fn block(rng: &mut Rng, node: &Node, starts: &[u64], (first, pages): Span, p: u64) -> Vec<u8> {
     let mut content = node.content.clone();
     if !content.leaf {
         content.items.iter_mut().for_each(|item| item.tag = starts[item.tag as usize]);
     }
     if rng.one_in(2) {
-        return spread(rng, &content, p, starts[place], pages);
+        return spread(rng, &content, p, first, pages);
     }
-    let mut block = write_content(&content, p, starts[place], 0xAA);
+    let mut block = write_content(&content, p, first, 0xAA);
     block.resize((pages * p) as usize, 0xAA);
     put(&mut block, 24, pages - 1);
     block

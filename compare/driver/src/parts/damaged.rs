@@ -6,67 +6,80 @@ use std::collections::BTreeMap;
 use oracle::probe::meta_page::Fields;
 use oracle::probe::{file, search};
 use reading::block::page_block;
-use subject::{ask, Subject};
+use subject::Subject;
 
 use super::files::{descend, worked, Temporary, View};
 use super::hostile::change;
 use super::Run;
 use crate::by_reading::Reading;
 use crate::make::content;
+use crate::make::image::{Image, Span};
+use crate::make::overlap::overlap;
 use crate::make::store::Plan;
 use crate::rng::Rng;
 
-const PLANS: [Plan; 5] = [
+/// The last two have values of several pages, and blocks of 300.
+const PLANS: [Plan; 7] = [
     Plan { pagesize: 1_024, steps: 12, puts: 20, deletes: 6, keys: 90, value: 60, nested: true },
     Plan { pagesize: 1_024, steps: 4, puts: 60, deletes: 10, keys: 200, value: 20, nested: false },
     Plan { pagesize: 1_032, steps: 12, puts: 16, deletes: 6, keys: 60, value: 300, nested: true },
     Plan { pagesize: 2_200, steps: 10, puts: 30, deletes: 9, keys: 120, value: 200, nested: true },
     Plan { pagesize: 4_096, steps: 10, puts: 30, deletes: 9, keys: 200, value: 300, nested: true },
+    Plan { pagesize: 1_024, steps: 8, puts: 10, deletes: 3, keys: 40, value: 3_000, nested: true },
+    Plan { pagesize: 1_024, steps: 4, puts: 4, deletes: 1, keys: 12, value: 51_200, nested: false },
 ];
 
 /// Copies made of each file.
-const COPIES: usize = 250;
+const COPIES: usize = 2_500;
 
-/// A file, or a damaged copy of it, and what is asked about it.
-#[derive(Clone)]
-struct Image {
-    bytes: Vec<u8>,
-    p: u64,
-    n: u64,
-    root: u64,
-    freelist: u64,
-}
-
-/// A file with its trees (the first page of each block, the root's first, then the freelist's) and the keys in them.
+/// A file with its trees (every block, the root's first, then the freelist's) and the keys in them.
 struct Made {
     image: Image,
-    trees: Vec<Vec<u64>>,
+    trees: Vec<Vec<Span>>,
     keys: Vec<Vec<u8>>,
 }
 
+/// What came of the copies: how often each number, the keys found in those that passed, the pages of the longest block.
+#[derive(Default)]
+struct Seen {
+    numbers: BTreeMap<u64, u64>,
+    found: usize,
+    longest: u64,
+}
+
 pub fn run(run: &mut Run) {
-    let (mut copies, mut passed, mut found) = (0, 0, 0);
+    let mut seen = Seen::default();
     for round in 0..run.rounds {
         let made = made(&mut run.rng, &PLANS[round % PLANS.len()]);
-        for _ in 0..COPIES {
-            let tree = run.rng.pick(&made.trees);
-            let mut image = Image { root: tree[0], ..made.image.clone() };
-            for _ in 0..run.rng.between(1, 2) {
-                damage(&mut run.rng, &mut image, &tree);
-            }
-            if run.rng.one_in(12) {
-                cut(&mut run.rng, &mut image);
-            }
-            copies += 1;
-            let what = format!("copy {copies}, P {}", image.p);
-            lookups(run, &image, &made.keys, &what);
-            if judged(run, &image, &what) {
-                passed += 1;
-                found += whole(run, &image, &what);
-            }
+        let longest = made.trees.iter().flatten().map(|(_, pages)| *pages).max();
+        seen.longest = seen.longest.max(longest.unwrap_or(0));
+        for copy in 0..COPIES {
+            compare(run, &made, &format!("file {round}, copy {copy}"), &mut seen);
         }
     }
+    let Seen { numbers, found, longest } = seen;
+    let (copies, passed) = (numbers.values().sum::<u64>(), numbers.get(&0).copied().unwrap_or(0));
     println!("  damaged: {copies} copies, {passed} passed the judge, {found} keys found in them");
+    let numbers: Vec<String> = numbers.iter().map(|(number, times)| format!("{number}: {times}")).collect();
+    println!("  numbers given back by the judge: {}; blocks of up to {longest} pages", numbers.join(", "));
+}
+
+/// Damages a copy of a file and asks about it.
+fn compare(run: &mut Run, made: &Made, what: &str, seen: &mut Seen) {
+    let tree = run.rng.pick(&made.trees);
+    let mut image = Image { root: tree[0].0, ..made.image.clone() };
+    for _ in 0..run.rng.between(1, 2) {
+        damage(&mut run.rng, &mut image, &tree);
+    }
+    if run.rng.one_in(12) {
+        cut(&mut run.rng, &mut image);
+    }
+    lookups(run, &image, &made.keys, what);
+    let number = judged(run, &image, what);
+    *seen.numbers.entry(number).or_default() += 1;
+    if number == 0 {
+        seen.found += whole(run, &image, what);
+    }
 }
 
 /// A file made by the crate after this plan, with unset bytes cleared.
@@ -80,18 +93,18 @@ fn made(rng: &mut Rng, plan: &Plan) -> Made {
     view.clear_unset(roots.iter().copied());
     let Fields { pagesize: p, num_pages: n, freelist_page: freelist, .. } = view.meta;
     let by_crate = search::Image::new(&view.bytes, p);
-    let first_pages =
-        |root: &u64| by_crate.spans(*root).into_iter().map(|(first, _)| first).chain([freelist]).collect();
-    let trees = roots.iter().map(first_pages).collect();
+    let spans = |root: &u64| [*root, freelist].into_iter().flat_map(|first| by_crate.spans(first)).collect();
+    let trees = roots.iter().map(spans).collect();
     let keys = store.buckets.values().flat_map(|data| data.keys().cloned()).chain([b"A".to_vec()]).collect();
     Made { image: Image { bytes: view.bytes, p, n, root: roots[0], freelist }, trees, keys }
 }
 
-/// One kind of damage, mostly to the tree: a byte, a field, pages swapped or copied, garbage, another root or freelist.
-fn damage(rng: &mut Rng, image: &mut Image, tree: &[u64]) {
+/// One kind of damage, mostly to the tree: a byte, a field, blocks that overlap, pages swapped or copied, garbage, another
+/// root or freelist.
+fn damage(rng: &mut Rng, image: &mut Image, tree: &[Span]) {
     let (p, n) = (image.p as usize, image.n);
-    let (at, other) = (rng.pick(tree) as usize * p, rng.between(2, n - 1) as usize * p);
-    match rng.below(12) {
+    let (at, other) = (image.start(rng.pick(tree).0), rng.between(2, n - 1) as usize * p);
+    match rng.below(16) {
         0 => flip(rng, &mut image.bytes),
         1..=3 => flip(rng, &mut image.bytes[at..at + 200]),
         4..=6 => change(rng, &mut image.bytes, at, n),
@@ -99,6 +112,7 @@ fn damage(rng: &mut Rng, image: &mut Image, tree: &[u64]) {
         8 => image.bytes.copy_within(at..at + p, other),
         9 => garbage(rng, &mut image.bytes),
         10 => garbage(rng, &mut image.bytes[at..at + p]),
+        11..=14 => overlap(rng, image, tree),
         _ if rng.one_in(2) => image.root = rng.between(0, n),
         _ => image.freelist = rng.between(0, n),
     }
@@ -128,7 +142,7 @@ fn garbage(rng: &mut Rng, bytes: &mut [u8]) {
 }
 
 fn lookup(s: &dyn Subject, image: &Image, key: &[u8]) -> (u64, [u64; 6]) {
-    let got = ask::<6>(|answer| s.lookup(&image.bytes, image.p, image.n, image.root, key, answer));
+    let got = image.looked(s, key);
     (got.number, got.fields)
 }
 
@@ -141,13 +155,11 @@ fn lookups(run: &mut Run, image: &Image, keys: &[Vec<u8>], what: &str) {
     }
 }
 
-/// The judge beside the reading: whether it passes the copy.
-fn judged(run: &mut Run, image: &Image, what: &str) -> bool {
-    let Image { bytes, p, n, root, freelist } = image;
-    let judge = |s: &dyn Subject| ask::<4>(|answer| s.judge(bytes, *p, *n, *root, *freelist, answer));
-    let expected = judge(&Reading);
-    run.tally.same(judge(run.subject), expected, || format!("{what}: judge"));
-    expected.number == 0
+/// The judge beside the reading: its number.
+fn judged(run: &mut Run, image: &Image, what: &str) -> u64 {
+    let expected = image.judged(&Reading);
+    run.tally.same(image.judged(run.subject), expected, || format!("{what}: judge, P {}", image.p));
+    expected.number
 }
 
 /// Every entry of the tree is found where it stands, and as many other keys are absent: how many entries there are.

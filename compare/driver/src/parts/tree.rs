@@ -4,23 +4,24 @@ use oracle::probe::search::{Hit, Image};
 use subject::ask;
 
 use super::Run;
-use crate::make::{content, tree};
+use crate::make::{self, content, tree};
 
 pub fn run(run: &mut Run) {
     for round in 0..run.rounds {
         let shape = tree::shape(&mut run.rng);
         let tree = tree::tree(&mut run.rng, &shape);
         let what = || format!("round {round}: {} entries, {} levels, P {}", shape.entries, shape.levels, shape.p);
-        let got = ask::<4>(|answer| run.subject.judge(&tree.image, tree.p, tree.n, tree.root, tree.freelist, answer));
-        let counts = [tree.items.len() as u64, tree.blocks.len() as u64, 0, 0];
-        run.tally.same((got.number, got.fields), (0, counts), what);
-        let image = Image::new(&tree.image, tree.p);
+        let got = tree.image.judged(run.subject);
+        let pages: u64 = tree.spans.iter().map(|(_, pages)| pages).sum();
+        run.tally.same((got.number, got.fields), (0, [tree.items.len() as u64, pages, 0, 0]), what);
+        let make::image::Image { bytes, p, n, root, .. } = &tree.image;
+        let image = Image::new(bytes, *p);
         let keys: Vec<Vec<u8>> = tree.items.iter().map(|item| item.key.clone()).collect();
         for key in content::questions(&mut run.rng, &keys, 30) {
-            let hit = looked(run, &tree.image, (tree.p, tree.n, tree.root), &key);
-            run.tally.same(hit, Ok(image.get(tree.root, &key)), || format!("{}: lookup of {key:?}", what()));
+            let hit = looked(run, bytes, (*p, *n, *root), &key);
+            run.tally.same(hit, Ok(image.get(*root, &key)), || format!("{}: lookup of {key:?}", what()));
             let place = tree.items.iter().find(|item| item.key == key).map(|item| item.value.clone());
-            let value = image.get(tree.root, &key).map(|hit| hit.value);
+            let value = image.get(*root, &key).map(|hit| hit.value);
             run.tally.same(value, place, || format!("{}: the crate's get of {key:?}", what()));
         }
     }

@@ -11,16 +11,17 @@ use crate::make::{content, tree};
 use crate::parts::files::{descend, open, worked, Temporary, View};
 use crate::rng::Rng;
 
-const PLANS: [Plan; 5] = [
+const PLANS: [Plan; 6] = [
     Plan { pagesize: 1_024, steps: 4, puts: 8, deletes: 2, keys: 40, value: 60, nested: true },
     Plan { pagesize: 1_024, steps: 6, puts: 16, deletes: 8, keys: 60, value: 30, nested: true },
     Plan { pagesize: 1_024, steps: 5, puts: 60, deletes: 10, keys: 200, value: 20, nested: false },
     Plan { pagesize: 1_032, steps: 5, puts: 12, deletes: 4, keys: 40, value: 150, nested: true },
     Plan { pagesize: 2_048, steps: 4, puts: 20, deletes: 6, keys: 60, value: 200, nested: true },
+    Plan { pagesize: 1_024, steps: 4, puts: 4, deletes: 1, keys: 12, value: 2_000, nested: true },
 ];
 
 pub fn record(rng: &mut Rng, tape: &mut Tape) {
-    for plan in PLANS.iter().cycle().take(10) {
+    for plan in PLANS.iter().cycle().take(2 * PLANS.len()) {
         let (view, roots) = made(rng, plan);
         image(tape, &view.bytes);
         for (root, keys) in roots {
@@ -29,10 +30,11 @@ pub fn record(rng: &mut Rng, tape: &mut Tape) {
         }
     }
     for levels in [1, 2, 3, 4, 16] {
-        let tree = tree::tree(rng, &tree::Shape { p: 1_024, entries: 8, levels, fanout: 2 });
-        image(tape, &tree.image);
+        let tree = tree::tree(rng, &tree::Shape { p: 1_024, entries: 8, value: 128, levels, fanout: 2 });
         let keys: Vec<Vec<u8>> = tree.items.iter().map(|item| item.key.clone()).collect();
-        lookups(rng, tape, &tree.image, (tree.p, tree.n, tree.root), &keys);
+        let made = tree.image;
+        image(tape, &made.bytes);
+        lookups(rng, tape, &made.bytes, (made.p, made.n, made.root), &keys);
     }
 }
 
@@ -60,13 +62,14 @@ fn made(rng: &mut Rng, plan: &Plan) -> (View, Vec<Root>) {
     (view, roots)
 }
 
-/// The entries and blocks that the crate counts; the freelist is one block more.
+/// The entries and pages that the crate counts, the freelist's included.
 fn judge(tape: &mut Tape, view: &View, root: u64) {
     let image = Image::new(&view.bytes, view.meta.pagesize);
+    let freelist = view.meta.freelist_page;
     tape.add(&Record {
         call: Call::Judge,
-        arguments: &[view.meta.pagesize, view.meta.num_pages, root, view.meta.freelist_page],
-        fields: &[image.entries(root), image.blocks(root) + 1, 0, 0],
+        arguments: &[view.meta.pagesize, view.meta.num_pages, root, freelist],
+        fields: &[image.entries(root), image.used(root, freelist), 0, 0],
         ..Record::default()
     });
 }

@@ -82,9 +82,10 @@ impl Image {
         spans
     }
 
-    /// The blocks of the tree under this root.
-    pub fn blocks(&self, root: u64) -> u64 {
-        self.spans(root).len() as u64
+    /// The pages of the tree under this root and of the freelist.
+    pub fn used(&self, root: u64, freelist: u64) -> u64 {
+        let pages = [root, freelist].into_iter().flat_map(|first| self.spans(first)).map(|(_, pages)| pages);
+        pages.sum()
     }
 
     /// The entries in the leaves of the tree under this root.

@@ -1,44 +1,46 @@
 //! Judge and lookup on changed images.
 
-use oracle::probe::search::Image;
-use subject::{ask, Subject};
+use oracle::probe::search;
 
 use super::{change, Seen};
 use crate::by_reading::Reading;
 use crate::make::content;
 use crate::make::fields::{get, put};
+use crate::make::image::{Image, Span};
+use crate::make::overlap::overlap;
 use crate::make::tree::{self, Tree};
 use crate::parts::tree::looked;
 use crate::parts::Run;
+use crate::rng::Rng;
 
 pub fn run(run: &mut Run, round: usize, seen: &mut Seen) {
     let shape = tree::shape(&mut run.rng);
-    let sound = tree::tree(&mut run.rng, &shape);
+    let Tree { image: sound, items, spans } = tree::tree(&mut run.rng, &shape);
+    let keys: Vec<Vec<u8>> = items.into_iter().map(|item| item.key).take(12).collect();
     for _ in 0..8 {
-        let mut tree = sound.clone();
-        disturb(run, &mut tree);
-        judge(run, round, &tree, seen);
-        lookups(run, round, &tree, seen);
+        let mut image = sound.clone();
+        disturb(&mut run.rng, &mut image, &spans);
+        judge(run, round, &image, seen);
+        lookups(run, round, &image, &keys, seen);
     }
 }
 
-/// One or two changes: to a field, to a page named, to the freelist page or to the geometry.
-fn disturb(run: &mut Run, tree: &mut Tree) {
-    let rng = &mut run.rng;
+/// One or two changes: to a field, to a page named, to the freelist page, to blocks that then overlap; or to the geometry.
+fn disturb(rng: &mut Rng, image: &mut Image, spans: &[Span]) {
     for _ in 0..rng.between(1, 2) {
-        let at = (rng.pick(&tree.blocks) * tree.p) as usize;
-        match rng.below(12) {
-            0 => tree.root = rng.pick(&tree.blocks),
-            1 => tree.freelist = rng.pick(&tree.blocks),
-            2 => put(&mut tree.image, at + 32, rng.pick(&tree.blocks)),
-            3 => put(&mut tree.image, (tree.freelist * tree.p) as usize + 40, rng.pick(&tree.blocks)),
-            4 => shift_key(&mut tree.image, at),
-            _ => change(rng, &mut tree.image, at, tree.n),
+        let (at, other) = (image.start(rng.pick(spans).0), rng.pick(spans).0);
+        match rng.below(14) {
+            0 => image.root = other,
+            1 => image.freelist = other,
+            2 => put(&mut image.bytes, at + 32, other),
+            3 => shift_key(&mut image.bytes, at),
+            4..=6 => overlap(rng, image, spans),
+            _ => change(rng, &mut image.bytes, at, image.n),
         }
     }
     match rng.below(12) {
-        0 => tree.p += rng.pick(&[4, 8]),
-        1 => tree.n = rng.pick(&[1, tree.n - 1, tree.n + 1]),
+        0 => image.p += rng.pick(&[4, 8]),
+        1 => image.n = rng.pick(&[1, image.n - 1, image.n + 1]),
         _ => (),
     }
 }
@@ -54,29 +56,24 @@ fn shift_key(image: &mut [u8], at: usize) {
     }
 }
 
-fn judge(run: &mut Run, round: usize, tree: &Tree, seen: &mut Seen) {
-    let judged =
-        |s: &dyn Subject| ask::<4>(|answer| s.judge(&tree.image, tree.p, tree.n, tree.root, tree.freelist, answer));
-    let expected = judged(&Reading);
+fn judge(run: &mut Run, round: usize, image: &Image, seen: &mut Seen) {
+    let expected = image.judged(&Reading);
     seen[expected.number as usize] += 1;
-    run.tally.same(judged(run.subject), expected, || format!("round {round}: judge, P {} N {}", tree.p, tree.n));
+    let what = || format!("round {round}: judge, P {} N {}", image.p, image.n);
+    run.tally.same(image.judged(run.subject), expected, what);
 }
 
-fn lookups(run: &mut Run, round: usize, tree: &Tree, seen: &mut Seen) {
-    let keys: Vec<Vec<u8>> = tree.items.iter().map(|item| item.key.clone()).take(12).collect();
-    let by_crate = Image::new(&tree.image, tree.p);
-    for key in content::questions(&mut run.rng, &keys, 3) {
-        let lookup =
-            |s: &dyn Subject| ask::<6>(|answer| s.lookup(&tree.image, tree.p, tree.n, tree.root, &key, answer));
-        let expected = lookup(&Reading);
+fn lookups(run: &mut Run, round: usize, image: &Image, keys: &[Vec<u8>], seen: &mut Seen) {
+    let Image { bytes, p, n, root, .. } = image;
+    let by_crate = search::Image::new(bytes, *p);
+    for key in content::questions(&mut run.rng, keys, 3) {
+        let expected = image.looked(&Reading, &key);
         seen[expected.number as usize] += 1;
-        run.tally.same(lookup(run.subject), expected, || {
-            format!("round {round}: lookup of {key:?}, P {} N {}", tree.p, tree.n)
-        });
+        let what = || format!("round {round}: lookup of {key:?}, P {p} N {n}");
+        run.tally.same(image.looked(run.subject, &key), expected, what);
         if expected.number == 0 {
-            let hit = looked(run, &tree.image, (tree.p, tree.n, tree.root), &key);
-            run.tally
-                .same(hit, Ok(by_crate.get(tree.root, &key)), || format!("round {round}: the crate's get of {key:?}"));
+            let hit = looked(run, bytes, (*p, *n, *root), &key);
+            run.tally.same(hit, Ok(by_crate.get(*root, &key)), || format!("round {round}: the crate's get of {key:?}"));
         }
     }
 }

@@ -92,8 +92,9 @@ fn roots(run: &mut Run) {
         judged(run, &image, (P, N), root, 5, (3, root, 0));
         looked(run, &image, (P, N), root, "b", (3, root, 0));
     }
-    judged(run, &image, (P, N), 2, 3, (8, 3, 0));
-    judged(run, &image, (P, N), 2, 6, (3, 6, 0));
+    for freelist in [3, 6] {
+        judged(run, &image, (P, N), 2, freelist, (3, freelist, 0));
+    }
 }
 
 /// Breaches of rules 2, 4, 5, 6 and 7 in leaf 3, which both judge and lookup of c meet.
@@ -133,9 +134,10 @@ fn pages(run: &mut Run) {
         judged(run, &image, (P, N), 2, 5, fault);
         looked(run, &image, (P, N), 2, "c", fault);
     }
-    let whole = changed(&[(LEFT + 24, 6), (value_size, 927)]);
+    let mut whole = changed(&[(ROOT + 32, 6), (LEFT, 6), (LEFT + 24, 3), (value_size, 3_999), (FREE + 16, 0)]);
+    whole.copy_within(LEFT..RIGHT, 6 * 1_024);
     let got = ask::<4>(|answer| run.subject.judge(&whole, P, N, 2, 5, answer));
-    run.tally.same((got.number, got.fields), (0, [4, 4, 0, 0]), || "a block up to the last page".into());
+    run.tally.same((got.number, got.fields), (0, [4, 7, 0, 0]), || "a block up to the last page".into());
 }
 
 fn changed(change: Change) -> Vec<u8> {

@@ -3,12 +3,14 @@
 mod block;
 mod edit;
 mod image;
+mod overlap;
 mod table;
 
 use super::Run;
 
 pub fn run(run: &mut Run) {
     image::run(run);
+    overlap::run(run);
     block::run(run);
     edit::run(run);
     table::run(run);
