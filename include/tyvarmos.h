@@ -25,7 +25,7 @@
  * Threads:   The calls keep no state, allocate nothing and make no system call. Any number of threads may call them, on
  *            the same bytes too, as long as nobody writes to these. If another process changes a mapped file, that is a
  *            write: read the file into memory where it may happen.
- * Stack:     The judge calls itself once for each level of the tree, 16 at most, and used 148,224 bytes for the deepest;
+ * Stack:     The judge calls itself once for each level of the tree, 16 at most, and used 144,496 bytes for the deepest;
  *            TYVARMOS_JUDGE_STACK leaves room. A thread's default may be less: musl's is 131,072. Lookup and meta used
  *            less than 1,024.
  * Time:      Lookup reads the blocks on the way to the key, the judge every block of the tree, each once.
@@ -54,7 +54,7 @@ enum tyvarmos_number {
     TYVARMOS_ELEMENT = 5,          /* an element that is not inside its block, or is of no known kind */
     TYVARMOS_ORDER = 6,            /* a key, or a free id, that is not above the one before it */
     TYVARMOS_RANGE = 7,            /* a key outside the range that the branches above give its page */
-    TYVARMOS_REACHED_TWICE = 8,    /* a page reached twice, or a free id that is a page in use */
+    TYVARMOS_REACHED_TWICE = 8,    /* a page that is part of two blocks, or of one and listed as free */
     TYVARMOS_TOO_DEEP = 9,         /* a tree of more than 16 levels */
     TYVARMOS_OUTPUT_TOO_SHORT = 10,
     TYVARMOS_ARGUMENT = 11,        /* of tyvarmos_meta: the meta page is one of another page size */
@@ -88,7 +88,7 @@ uint64_t tyvarmos_lookup(const void *image, size_t image_len, uint64_t page_size
 /* The fields of tyvarmos_judge's answer. */
 enum tyvarmos_judge_field {
     TYVARMOS_JUDGE_ENTRIES = 0,    /* how many leaf entries the tree has */
-    TYVARMOS_JUDGE_BLOCKS = 1,     /* how many blocks the tree and the freelist have */
+    TYVARMOS_JUDGE_PAGES = 1,      /* how many pages the blocks of the tree and of the freelist have */
     TYVARMOS_JUDGE_PAGE = 2,       /* of a refusal: the page */
     TYVARMOS_JUDGE_ELEMENT = 3,    /* of a refusal: the element or the free id, counted from 0 */
     TYVARMOS_JUDGE_FIELDS = 4
@@ -101,8 +101,10 @@ enum tyvarmos_judge_field {
  * Judges the tree under root_page and the freelist page: TYVARMOS_DONE if they are sound, and else the first breach. The
  * trees of buckets are not part of it; judge each by its own root page.
  *
- * A refusal with TYVARMOS_REACHED_TWICE that names freelist_page is about a free id if the type of that page, its byte
- * 8, is 4, and else about the page itself.
+ * A block's overflow pages are part of it, and no page may be part of two blocks, or of one and listed as free.
+ * TYVARMOS_REACHED_TWICE names the lowest page of a block that was part of another one before, with element 0, or
+ * freelist_page and the index of a free id. Where it names freelist_page and element 0, it is about that page if it is
+ * part of a block of the tree, and else about the first free id.
  */
 uint64_t tyvarmos_judge(const void *image, size_t image_len, uint64_t page_size, uint64_t page_count,
                         uint64_t root_page, uint64_t freelist_page, void *answer, size_t answer_len);

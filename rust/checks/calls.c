@@ -44,7 +44,7 @@ static void hold_the_fields(void)
     HOLDS(meta[TYVARMOS_META_PAGE_COUNT] == 146 && meta[TYVARMOS_META_FREELIST_PAGE] == 66);
     HOLDS(meta[TYVARMOS_META_TX_ID] == 10);
     HOLDS(judge(bytes, length, judged, sizeof judged) == TYVARMOS_DONE);
-    HOLDS(judged[TYVARMOS_JUDGE_ENTRIES] == 4 && judged[TYVARMOS_JUDGE_BLOCKS] == 2);
+    HOLDS(judged[TYVARMOS_JUDGE_ENTRIES] == 4 && judged[TYVARMOS_JUDGE_PAGES] == 2);
     HOLDS(judged[TYVARMOS_JUDGE_PAGE] == 0 && judged[TYVARMOS_JUDGE_ELEMENT] == 0);
     HOLDS(lookup(bytes, length, "world", 5, found, sizeof found) == TYVARMOS_DONE);
     HOLDS(found[TYVARMOS_LOOKUP_FOUND] == 1 && found[TYVARMOS_LOOKUP_KIND] == 1);
@@ -98,11 +98,27 @@ static void hold_refusals(void)
     damaged[66 * 1024 + 16] = 1;
     damaged[66 * 1024 + 32] = 65;
     HOLDS(judge(damaged, length, judged, sizeof judged) == TYVARMOS_REACHED_TWICE);
-    HOLDS(judged[TYVARMOS_JUDGE_PAGE] == 66 && judged[TYVARMOS_JUDGE_ELEMENT] == 0 && damaged[66 * 1024 + 8] == 4);
-    HOLDS(judged[TYVARMOS_JUDGE_ENTRIES] == 0 && judged[TYVARMOS_JUDGE_BLOCKS] == 0);
+    HOLDS(judged[TYVARMOS_JUDGE_PAGE] == 66 && judged[TYVARMOS_JUDGE_ELEMENT] == 0);
+    HOLDS(judged[TYVARMOS_JUDGE_ENTRIES] == 0 && judged[TYVARMOS_JUDGE_PAGES] == 0);
     memset(damaged, 0, 2048);
     HOLDS(tyvarmos_meta(damaged, length, 0, judged, sizeof judged) == TYVARMOS_GEOMETRY);
     HOLDS(tyvarmos_meta(damaged, length, 0, meta, sizeof meta) == TYVARMOS_HEADER);
+}
+
+/* The bucket world: one leaf, pages 97 to 101. */
+static void hold_overflow_pages(void)
+{
+    static unsigned char damaged[MOST];
+    uint64_t judged[TYVARMOS_JUDGE_FIELDS];
+    memcpy(damaged, bytes, length);
+    HOLDS(tyvarmos_judge(damaged, length, 1024, 146, 97, 66, judged, sizeof judged) == TYVARMOS_DONE);
+    HOLDS(judged[TYVARMOS_JUDGE_ENTRIES] == 2 && judged[TYVARMOS_JUDGE_PAGES] == 6);
+    damaged[66 * 1024 + 32 + 8 * 20] = 98;
+    HOLDS(tyvarmos_judge(damaged, length, 1024, 146, 97, 66, judged, sizeof judged) == TYVARMOS_REACHED_TWICE);
+    HOLDS(judged[TYVARMOS_JUDGE_PAGE] == 66 && judged[TYVARMOS_JUDGE_ELEMENT] == 20);
+    damaged[66 * 1024 + 24] = 40;
+    HOLDS(tyvarmos_judge(damaged, length, 1024, 146, 97, 66, judged, sizeof judged) == TYVARMOS_REACHED_TWICE);
+    HOLDS(judged[TYVARMOS_JUDGE_PAGE] == 97 && judged[TYVARMOS_JUDGE_ELEMENT] == 0);
 }
 
 static void *look_many_times(void *word)
@@ -140,6 +156,7 @@ int main(int count, char **words)
     hold_the_answer_buffer();
     hold_any_alignment();
     hold_threads();
+    hold_overflow_pages();
     hold_refusals();
     return failed;
 }

@@ -73,6 +73,7 @@ mod meta;
 mod metas;
 mod number;
 mod raw;
+mod reach;
 mod sound;
 mod tree;
 

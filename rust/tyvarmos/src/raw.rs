@@ -35,7 +35,7 @@ pub(crate) fn lookup(image: &[u8], tree: &Tree, key: &[u8]) -> Answer<6> {
     })
 }
 
-/// The number; entries, blocks, page, element.
+/// The number; entries, pages, page, element.
 pub(crate) fn judge(image: &[u8], tree: &Tree) -> Answer<4> {
     let (start, length) = (image.as_ptr(), image.len());
     let Tree { page_size, page_count, root_page, freelist_page } = *tree;

@@ -50,7 +50,7 @@ impl<'a> Sound<'a> {
         self.entries
     }
 
-    /// How many pages the tree and the freelist reach by their number. A block's overflow pages are not counted.
+    /// How many pages the blocks of the tree and of the freelist have, overflow pages included. No two share one.
     #[must_use]
     pub const fn pages(&self) -> u64 {
         self.pages

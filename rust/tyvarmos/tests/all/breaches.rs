@@ -36,14 +36,23 @@ fn breach(bytes: Vec<u8>, sizes: [u64; 4], fault: Fault, sentence: &'static str)
     Breach { bytes, sizes, fault, sentence }
 }
 
-/// The small image with a header that claims the freelist's page for the tree: the last branch names it.
+/// The small image with a leaf on the freelist's page, which the last branch names.
 fn freelist_in_the_tree() -> Breach {
     let mut bytes = small::image();
     let (from, to) = ((10 * P) as usize, (FREELIST * P) as usize);
     bytes.copy_within(from..from + P as usize, to);
     put_u64(&mut bytes, to, FREELIST);
     put_u64(&mut bytes, (7 * P) as usize + 32 + 24, FREELIST);
-    breach(bytes, [P, N, ROOT, FREELIST], Fault::at_page(Number::ReachedTwice, FREELIST), FREELIST_PAGE)
+    breach(bytes, [P, N, ROOT, FREELIST], Fault::at_page(Number::Header, FREELIST), FREELIST_HEADER)
+}
+
+/// The small image with a freelist of two ids in the value of leaf 5, where its second page starts.
+fn freelist_in_a_leaf() -> Breach {
+    let mut bytes = small::image();
+    let (from, to) = ((FREELIST * P) as usize, (6 * P) as usize);
+    bytes.copy_within(from..from + 32 + 16, to);
+    put_u64(&mut bytes, to, 6);
+    breach(bytes, [P, N, ROOT, 6], Fault::at_page(Number::ReachedTwice, 6), FREELIST_PAGE)
 }
 
 /// Seventeen levels, one branch in each but the last.
@@ -68,10 +77,19 @@ const ELEMENT: &str = "page 4, element 1: this element's key or value is not ins
                        its bucket value is not 16 bytes, or it is a free id that is no page (5)";
 const ORDER: &str = "page 4, element 1: this key (in a freelist, this id) is not above the one before it (6)";
 const RANGE: &str = "page 10, element 0: this key is outside the range that the branches above give its page (7)";
-const TWICE: &str = "page 8: the page is reached twice, or a free id is a page in use (8)";
-const FREELIST_PAGE: &str = "page 2: the page is reached twice, or a free id is a page in use (8)";
-const FREE_ID_0: &str = "page 2, element 0: the page is reached twice, or a free id is a page in use (8)";
-const FREE_ID: &str = "page 2, element 1: the page is reached twice, or a free id is a page in use (8)";
+const LEAF_AS_FREELIST: &str =
+    "page 4: the header is not that of the page wanted: another id, another type, or a block past the last page (3)";
+const FREELIST_HEADER: &str =
+    "page 2: the header is not that of the page wanted: another id, another type, or a block past the last page (3)";
+const TWICE: &str = "page 4: a page is used twice: it is part of two blocks, or of one and listed as free (8)";
+const OVERLAP: &str = "page 7: a page is used twice: it is part of two blocks, or of one and listed as free (8)";
+const FREELIST_OVERLAP: &str =
+    "page 3: a page is used twice: it is part of two blocks, or of one and listed as free (8)";
+const FREELIST_PAGE: &str = "page 6: a page is used twice: it is part of two blocks, or of one and listed as free (8)";
+const FREE_ID_0: &str =
+    "page 2, element 0: a page is used twice: it is part of two blocks, or of one and listed as free (8)";
+const FREE_ID: &str =
+    "page 2, element 1: a page is used twice: it is part of two blocks, or of one and listed as free (8)";
 const DEPTH: &str = "page 18: the tree is deeper than 16 levels (9)";
 
 /// A breach of each rule, and of the freelist's.
@@ -90,9 +108,14 @@ pub fn all() -> Vec<Breach> {
         changed(4, 32 + 32 + 8, u64::MAX, Fault::at_element(Number::Element, 4, 1), ELEMENT),
         changed(4, 32 + 32 + 16, 1, Fault::at_element(Number::Order, 4, 1), ORDER),
         changed(3, 32 + 24, 10, Fault::at_element(Number::Range, 10, 0), RANGE),
-        sized([P, N, ROOT, 8], Fault::at_page(Number::ReachedTwice, 8), TWICE),
+        sized([P, N, ROOT, 4], Fault::at_page(Number::Header, 4), LEAF_AS_FREELIST),
         freelist_in_the_tree(),
+        changed(3, 32 + 24, 4, Fault::at_page(Number::ReachedTwice, 4), TWICE),
+        changed(5, 24, 2, Fault::at_page(Number::ReachedTwice, 7), OVERLAP),
+        changed(2, 24, 1, Fault::at_page(Number::ReachedTwice, 3), FREELIST_OVERLAP),
+        freelist_in_a_leaf(),
         changed(2, 32, 5, Fault::at_element(Number::ReachedTwice, FREELIST, 0), FREE_ID_0),
+        changed(2, 32, 6, Fault::at_element(Number::ReachedTwice, FREELIST, 0), FREE_ID_0),
         changed(2, 40, 10, Fault::at_element(Number::ReachedTwice, FREELIST, 1), FREE_ID),
         too_deep(),
     ]

@@ -34,12 +34,12 @@ fn judge_tells_what_is_sound() {
     assert!(done.text().contains("the main tree, root page 65, freelist page 66\n"));
     assert!(done.text().contains("146 pages of 1024 bytes\n"));
     assert!(done.text().contains("meta page 1, transaction 10, next number 4\n"));
-    assert!(done.text().contains("4 entries in 2 blocks, the freelist's included\n"));
+    assert!(done.text().contains("4 entries in 2 pages, the freelist's included\n"));
     assert!(done.text().contains(" ms\n"));
     let bags = run(&["judge", EXAMPLE, "--bucket", "characters", "--bucket-hex", "62616773"]);
     assert_eq!(bags.status, 0);
     assert!(bags.text().contains("bucket \"characters\", \"bags\", root page 51"));
-    assert!(bags.text().contains("107 entries in 22 blocks"));
+    assert!(bags.text().contains("107 entries in 22 pages"));
 }
 
 #[test]
@@ -82,7 +82,7 @@ fn judge_shows_the_bytes_of_a_breach() {
     assert!(shown(7, Some(0))
         .contains("  key 0, at byte 10400:\n    000028a0  73                                               s\n"));
     assert!(shown(8, Some(1)).contains("  free id 1, at byte 2088:\n    00000828  0a 00 00 00 00 00 00 00 "));
-    assert!(shown(8, None).contains("  its header, at byte 8192:\n"));
+    assert!(shown(8, None).contains("  its header, at byte 4096:\n"));
     assert!(!shown(2, None).contains("its header"));
     let named = breaches::all().into_iter().find(|breach| breach.fault.page == Some(99)).unwrap();
     let named = run_with("judge", &Temporary::file("named", &named.bytes), &[], named.sizes);
@@ -220,7 +220,7 @@ fn a_lost_meta_page_is_made_up_for() {
 #[test]
 fn one_number_of_a_meta_page_may_be_replaced() {
     let bags = run(&["judge", EXAMPLE, "--root", "51"]);
-    assert!(bags.text().contains("107 entries in 22 blocks"));
+    assert!(bags.text().contains("107 entries in 22 pages"));
     assert!(bags.text().contains("meta page 1, transaction 10, next number 4, and the command line\n"));
     let size = run(&["judge", EXAMPLE, "--page-size", "4096"]);
     assert_eq!(size.status, 2);
@@ -255,7 +255,7 @@ fn stat_tells_the_numbers() {
         "  by        meta page 1, transaction 10, next number 4",
         "  bucket    next number 60",
         "  free      43 pages",
-        "  verdict   bucket \"accounts\" sound, it has no buckets: 60 entries in 12 blocks, the freelist's included",
+        "  verdict   bucket \"accounts\" sound, it has no buckets: 60 entries in 12 pages, the freelist's included",
     ];
     assert_eq!((stat.status, stat.text().lines().collect::<Vec<_>>().as_slice()), (0, lines.as_slice()));
 }
@@ -266,7 +266,7 @@ fn json_tells_the_numbers() {
     let names = ["file_bytes", "meta_page", "tx_id", "next_int", "page_size", "page_count", "root", "freelist"];
     let numbers = [163_840, 1, 10, 4, 1_024, 146, 65, 66];
     assert_eq!(names.map(|name| stat[name].number()), numbers.map(Some));
-    let counts = ["entries", "blocks", "free_pages"].map(|name| stat[name].number());
+    let counts = ["entries", "pages", "free_pages"].map(|name| stat[name].number());
     assert_eq!((stat["file"].text(), stat["verdict"].text(), counts), (EXAMPLE, "sound", [Some(4), Some(2), Some(43)]));
     assert!(matches!(&stat["seconds"], json::Value::Number(seconds) if seconds.starts_with("0.")));
     let get = json::parse(run(&["get", EXAMPLE, "--json", "--bucket", "world", "motto"]).text());

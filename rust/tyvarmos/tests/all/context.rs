@@ -134,50 +134,91 @@ fn a_key_outside_its_range_has_the_ends_of_it() {
     assert_eq!((range["crossed"].text(), range["low"]["key"].text(), &range["high"]), ("low", "r", &Value::Null));
 }
 
+/// Checks that each of these lines is told.
+fn check_lines(words: &str, lines: &[&str]) {
+    for line in lines {
+        assert!(words.contains(&format!("  {line}\n")), "{line}\n{words}");
+    }
+}
+
 #[test]
-fn a_page_reached_twice_has_both_places() {
-    let (words, json) = told_of("page 8: the page is reached twice");
-    assert!(words.contains("page 8 is named by the command line\n"), "{words}");
-    assert!(words.contains("  in use    page 8 is also named by element 0 of page 7, at byte 7200\n"), "{words}");
-    assert_eq!(json["context"]["first_named_by"]["page"].number(), Some(7));
-    assert_eq!((json["page"].number(), &json["element"]), (Some(8), &Value::Null));
+fn a_block_reached_twice_has_both_places() {
+    let (words, json) = told_of("page 4: a page is used twice");
+    let lines = [
+        "cause     the leaf on page 4 is reached twice",
+        "path      main tree: root page 3, element 1 > page 4",
+        "named     page 4 is named by element 1 of page 3, at byte 3128",
+        "in use    the leaf on page 4 is named by element 0 of page 3, at byte 3104",
+    ];
+    check_lines(&words, &lines);
+    assert_eq!(json["context"]["first_named_by"]["element"].number(), Some(0));
+    assert_eq!((json["page"].number(), &json["element"]), (Some(4), &Value::Null));
     let mut bytes = small::image();
     put_u64(&mut bytes, (7 * P) as usize + 32 + 24, 3);
     let cycle = run_on("judge", &Temporary::file("cycle", &bytes), &[]);
-    assert!(cycle.text().contains("page 3 is named by element 1 of page 7, at byte 7224\n"), "{}", cycle.text());
-    assert!(cycle.text().contains("page 3 is also named by meta page 1, as root page, at byte 1080\n"));
+    let lines = [
+        "cause     the branch on page 3 is reached twice",
+        "named     page 3 is named by element 1 of page 7, at byte 7224",
+        "in use    the branch on page 3 is named by meta page 1, as root page, at byte 1080",
+    ];
+    check_lines(cycle.text(), &lines);
+}
+
+#[test]
+fn a_page_of_two_blocks_has_both() {
+    let (words, json) = told_of("page 7: a page is used twice");
+    let lines = [
+        "cause     page 7 is part of the leaf on pages 5 to 7, and of the branch on page 7",
+        "path      main tree: root page 3, element 2 > page 7",
+        "named     page 7 is named by element 2 of page 3, at byte 3152",
+        "in use    the leaf on pages 5 to 7 is named by element 1 of page 3, at byte 3128",
+        "header    page 7 at byte 7168: id 7, type 1 (branch), count 2, overflow 0",
+    ];
+    check_lines(&words, &lines);
+    let context = &json["context"];
+    assert_eq!(context["page_in_use"].number(), Some(7));
+    let used_by: Vec<_> = context["used_by"].list().iter().map(|block| block["first_page"].number()).collect();
+    assert_eq!(used_by, [Some(5), Some(7)]);
+    assert_eq!(context["used_by"].list()[0]["last_page"].number(), Some(7));
+    assert_eq!(context["used_by"].list()[1]["type_name"].text(), "branch");
+    let (words, _) = told_of("page 3: a page is used twice");
+    let lines = [
+        "cause     page 3 is part of the branch on page 3, and of the freelist on pages 2 to 3",
+        "path      freelist page 2",
+        "named     page 2 is named by the command line",
+        "in use    the branch on page 3 is named by the command line",
+        "header    page 2 at byte 2048: id 2, type 4 (freelist), count 2, overflow 1",
+    ];
+    check_lines(&words, &lines);
+    let (words, _) = told_of("page 6: a page is used twice");
+    check_lines(&words, &["cause     page 6 is part of the leaf on pages 5 to 6, and of the freelist on page 6"]);
 }
 
 #[test]
 fn a_free_id_in_use_names_its_element_and_its_place() {
-    for (i, id, place) in [(0, 5, "element 1 of page 3, at byte 3128"), (1, 10, "element 1 of page 7, at byte 7224")] {
+    let cases = [
+        (0, 5, "the leaf on pages 5 to 6", "element 1 of page 3, at byte 3128"),
+        (0, 6, "the leaf on pages 5 to 6", "element 1 of page 3, at byte 3128"),
+        (1, 10, "the leaf on page 10", "element 1 of page 7, at byte 7224"),
+        (0, FREELIST, "the freelist on page 2", "meta page 1, as freelist page, at byte 1104"),
+    ];
+    for (i, id, block, place) in cases {
         let mut bytes = small::image();
         put_u64(&mut bytes, (FREELIST * P) as usize + 32 + 8 * i, id);
         let file = Temporary::file("free-id", &bytes);
         let words = run_on("judge", &file, &[]);
-        assert!(
-            words.text().contains(&format!("  page 2, element {i}: the page is reached twice")),
-            "{}",
-            words.text()
-        );
-        assert!(
-            words.text().contains(&format!("  in use    page {id} is also named by {place}\n")),
-            "{}",
-            words.text()
-        );
-        assert!(words.text().contains(&format!("  element   at byte {}: free id {id}\n", 2_080 + 8 * i)));
+        assert!(words.text().contains(&format!("  page 2, element {i}: a page is used twice")), "{}", words.text());
+        let lines = [
+            format!("cause     free id {i} is page {id}, part of {block}"),
+            format!("in use    {block} is named by {place}"),
+            format!("element   at byte {}: free id {id}", 2_080 + 8 * i),
+        ];
+        check_lines(words.text(), &lines.each_ref().map(String::as_str));
         let json = json::parse(run_on("judge", &file, &["--json"]).text());
         assert_eq!(json["element"].number(), Some(i as u64));
         assert_eq!(json["context"]["page_in_use"].number(), Some(id));
+        assert_eq!(json["context"]["used_by"].list().len(), 1);
     }
-    let mut bytes = small::image();
-    put_u64(&mut bytes, (FREELIST * P) as usize + 32, FREELIST);
-    let own = run_on("judge", &Temporary::file("own-id", &bytes), &[]);
-    assert!(
-        own.text().contains("page 2 is also named by meta page 1, as freelist page, at byte 1104\n"),
-        "{}",
-        own.text()
-    );
 }
 
 #[test]

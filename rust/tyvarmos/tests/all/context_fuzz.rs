@@ -53,6 +53,38 @@ fn check_range(bytes: &[u8], told: &Value, page: u64, element: u64) {
     }
 }
 
+/// The page that a place names, by the bytes or as the freelist page.
+fn first_page(bytes: &[u8], told: &Value, place: &Value) -> u64 {
+    match place["as"].text() {
+        "freelist" => told["freelist"].number().unwrap(),
+        _ => named(bytes, told["root"].number().unwrap(), place),
+    }
+}
+
+/// Checks the blocks of a fault with 8, which is in the block that starts with a page: each has the page in question.
+fn check_twice(bytes: &[u8], told: &Value, page: u64, first: u64) {
+    let context = &told["context"];
+    let in_use = context["page_in_use"].number().unwrap();
+    let extent = |block: &Value| {
+        let (first, last) = (block["first_page"].number().unwrap(), block["last_page"].number().unwrap());
+        assert_eq!(header(&bytes[(first * P) as usize..]).overflow, last - first);
+        assert!((first..=last).contains(&in_use), "{told:?}");
+        first
+    };
+    let blocks: Vec<u64> = context["used_by"].list().iter().map(extent).collect();
+    assert_eq!(first_page(bytes, told, &context["first_named_by"]), blocks[0]);
+    match told["element"].number() {
+        Some(i) => {
+            assert_eq!((page, blocks.len()), (first, 1));
+            assert_eq!(u64_at(bytes, (page * P) as usize + 32 + 8 * i as usize), in_use);
+        }
+        None => {
+            assert_eq!((page, &blocks[1..]), (in_use, [first].as_slice()));
+            assert_ne!(context["named_by"], context["first_named_by"]);
+        }
+    }
+}
+
 /// Checks what is told about one damaged image, and answers the number.
 fn check(bytes: &[u8], told: &Value) -> u64 {
     if matches!(told["verdict"].text(), "sound" | "absent") {
@@ -63,25 +95,19 @@ fn check(bytes: &[u8], told: &Value) -> u64 {
         assert!(page.is_none(), "{told:?}");
         return number;
     }
-    let (page, root, freelist) = (page.unwrap(), told["root"].number().unwrap(), told["freelist"].number().unwrap());
-    let context = &told["context"];
-    match context["named_by"]["as"].text() {
-        "freelist" => assert_eq!(page, freelist),
-        _ => assert_eq!(named(bytes, root, &context["named_by"]), page, "{told:?}"),
-    }
+    let (page, context) = (page.unwrap(), &told["context"]);
+    let first = first_page(bytes, told, &context["named_by"]);
     if number == 8 {
-        let first = &context["first_named_by"];
-        let in_use = context["page_in_use"].number().unwrap();
-        let named = if first["as"].text() == "freelist" { freelist } else { named(bytes, root, first) };
-        assert_eq!(named, in_use);
-        assert_ne!((first, in_use), (&context["named_by"], page));
+        check_twice(bytes, told, page, first);
+    } else {
+        assert_eq!(first, page, "{told:?}");
     }
-    assert_eq!(context.has("cause"), (2..=6).contains(&number), "{told:?}");
+    assert_eq!(context.has("cause"), matches!(number, 2..=6 | 8), "{told:?}");
     if number == 7 {
         check_range(bytes, told, page, told["element"].number().unwrap());
     }
     if context.has("header") {
-        let start = (page * P) as usize;
+        let start = (first * P) as usize;
         assert_eq!(context["page_byte"].number(), Some(start as u64));
         assert_eq!(context["header"]["count"].number(), Some(header(&bytes[start..]).count));
     }
@@ -137,7 +163,7 @@ fn what_is_told_holds_of_the_bytes() {
 fn what_is_told_of_a_bucket_holds_of_the_bytes() {
     let mut rng = Rng::new(8);
     let mut numbers = BTreeMap::new();
-    for _ in 0..5 {
+    for _ in 0..10 {
         let mut images = vec![example(); 100];
         for bytes in &mut images {
             for _ in 0..1 + rng.below(15) {
@@ -146,7 +172,7 @@ fn what_is_told_of_a_bucket_holds_of_the_bytes() {
         }
         check_all(&images, &["--bucket=characters"], &mut numbers);
     }
-    check_seen(&numbers, &[0, 3, 4, 5, 6]);
+    check_seen(&numbers, &[0, 3, 4, 5, 6, 7, 8]);
 }
 
 #[test]

@@ -7,13 +7,15 @@ use crate::rng::Rng;
 /// Damages these bytes once to three times.
 pub fn damage(rng: &mut Rng, bytes: &mut [u8], p: usize) {
     for _ in 0..1 + rng.below(3) {
-        match rng.below(8) {
+        match rng.below(10) {
             0 => flip(rng, bytes, p),
             1 | 2 => set_field(rng, bytes, p),
             3 => nudge_field(rng, bytes, p),
             4 => copy_page(rng, bytes, p),
             5 => copy_words(rng, bytes, p),
             6 => fill(rng, bytes, p),
+            7 => lengthen(rng, bytes, p),
+            8 => list(rng, bytes, p),
             _ => set_type(rng, bytes, p),
         }
     }
@@ -85,4 +87,19 @@ fn fill(rng: &mut Rng, bytes: &mut [u8], p: usize) {
 fn set_type(rng: &mut Rng, bytes: &mut [u8], p: usize) {
     let at = page(rng, bytes, p) + 8;
     bytes[at] = rng.pick(&[0, 1, 1, 2, 2, 3, 4, 255]);
+}
+
+/// Gives a page a few overflow pages.
+fn lengthen(rng: &mut Rng, bytes: &mut [u8], p: usize) {
+    let at = page(rng, bytes, p) + 24;
+    put_u64(bytes, at, 1 + rng.below(3) as u64);
+}
+
+/// Lists a page as free, in the place of the first or second id of a freelist.
+fn list(rng: &mut Rng, bytes: &mut [u8], p: usize) {
+    let freelist = bytes.chunks(p).position(|page| page[8] == 4);
+    let (id, listed) = (rng.below(2), rng.below(bytes.len() / p) as u64);
+    if let Some(page) = freelist {
+        put_u64(bytes, page * p + 32 + 8 * id, listed);
+    }
 }

@@ -48,11 +48,12 @@ fn listed(bytes: &[u8], found: Found) -> Listed<'_> {
 fn check_judge(bytes: &[u8], sizes: Sizes, numbers: &mut Numbers) {
     let [p, n, root, freelist] = sizes;
     let judged = image(bytes, sizes).judge().map(|sound| (sound.entries(), sound.pages()));
-    let read = judge(bytes, p, n, root, freelist).map(|sound| (sound.entries, sound.blocks));
+    let read = judge(bytes, p, n, root, freelist).map(|sound| (sound.entries, sound.pages));
     assert_eq!(judged.map_err(plain), read, "{sizes:?}");
     assert_eq!(image(bytes, sizes).geometry().is_err(), read.is_err_and(|fault| fault.number == 1), "{sizes:?}");
-    if let Err(Fault { number: Number::ReachedTwice, element, .. }) = judged {
-        assert_eq!(element.is_some(), passes_without_ids(bytes, sizes), "{sizes:?}");
+    if let Err(Fault { number: Number::ReachedTwice, page, element, .. }) = judged {
+        let is_id = page == Some(freelist) && passes_without_ids(bytes, sizes);
+        assert_eq!(element.is_some(), is_id, "{sizes:?}");
     }
     *numbers.entry(judged.map_or_else(|fault| fault.number.code(), |_| 0)).or_default() += 1;
 }
@@ -147,7 +148,7 @@ fn damaged_copies_of_the_example() {
             check_lookup(&bytes, sizes, &keys[rng.below(keys.len())], &mut looked);
         }
     }
-    check_seen(&judged, [0, 3, 4, 5, 6, 7].into_iter());
+    check_seen(&judged, [0, 3, 4, 5, 6, 7, 8].into_iter());
     check_seen(&looked, [0, 3, 5].into_iter());
 }
 

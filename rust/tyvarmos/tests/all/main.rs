@@ -17,6 +17,7 @@ mod many;
 mod meta;
 mod meta_pages;
 mod names;
+mod overlap;
 mod papers;
 mod probe;
 mod rng;

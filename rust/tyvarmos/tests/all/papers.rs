@@ -47,23 +47,50 @@ fn the_readme_shows_the_verdict_on_the_example() {
     check_shown(&shown(&paper("README.md"), "examples/shard.db: "), &done);
 }
 
+/// The byte that a paper puts into a copy of the example, by `printf` and `dd`, and where; the copy is not to be kept.
+fn byte_put(paper_text: &str, copy: &str) -> (usize, u8) {
+    let (before, after) = paper_text.split_once(&format!("' | dd of={copy} bs=1 seek=")).unwrap();
+    let at = after.split(' ').next().unwrap().parse().unwrap();
+    let (_, digits) = before.rsplit_once("printf '\\").unwrap();
+    assert!(paper_text.contains(&format!("    cp examples/shard.db {copy}\n")));
+    assert!(paper(".gitignore").lines().any(|line| line == copy));
+    (at, u8::from_str_radix(digits, 8).unwrap())
+}
+
+/// Judges the example with a byte put there, as a file of this name, by the words that a paper has for it.
+fn judged_with((at, byte): (usize, u8), paper_text: &str, copy: &str) -> Done {
+    let (_, words) = paper_text.split_once(&format!("    ./tyvarmos judge {copy}")).unwrap();
+    let words = ["judge", copy].into_iter().chain(words.lines().next().unwrap().split_whitespace());
+    let folder = Temporary::nothing("judged-with");
+    fs::create_dir(&folder.path).unwrap();
+    let mut bytes = example();
+    bytes[at] = byte;
+    fs::write(folder.path.join(copy), bytes).unwrap();
+    run_in(folder.path.to_str().unwrap(), &words.collect::<Vec<_>>())
+}
+
 #[test]
 fn the_readme_damages_an_element_and_shows_it_named() {
     let readme = paper("README.md");
-    let (_, seek) = readme.split_once("printf '\\377' | dd of=damaged.db bs=1 seek=").unwrap();
-    let at: usize = seek.split(' ').next().unwrap().parse().unwrap();
-    let folder = Temporary::nothing("readme");
-    fs::create_dir(&folder.path).unwrap();
-    let mut bytes = example();
-    bytes[at] = 0o377;
-    fs::write(folder.path.join("damaged.db"), bytes).unwrap();
-    let done = run_in(folder.path.to_str().unwrap(), &["judge", "damaged.db"]);
-    assert_eq!(done.status, 2);
+    let (at, byte) = byte_put(&readme, "damaged.db");
+    let done = judged_with((at, byte), &readme, "damaged.db");
+    assert_eq!((done.status, byte), (2, 255));
     check_shown(&shown(&readme, "damaged.db: "), &done);
     let element = (at - 65 * 1_024 - 32) / 32;
     assert!(done.text().contains(&format!("  page 65, element {element}: ")));
     assert!(readme.contains(&format!("Element {element} of page 65")));
-    assert!(paper(".gitignore").lines().any(|line| line == "damaged.db"));
+}
+
+#[test]
+fn the_examples_lose_a_shard_and_show_it_named() {
+    let examples = paper("examples/README.md");
+    let (at, byte) = byte_put(&examples, "lost.db");
+    let done = judged_with((at, byte), &examples, "lost.db");
+    assert_eq!(done.status, 2);
+    check_shown(&shown(&examples, "lost.db: "), &done);
+    let id = (at - 66 * 1_024 - 32) / 8;
+    assert!(examples.contains(&format!("Free id {id}, on page 66, was {} and is {byte} now", example()[at])));
+    assert!(done.text().contains(&format!("  page 66, element {id}: ")));
 }
 
 #[test]

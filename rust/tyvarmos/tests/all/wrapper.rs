@@ -63,7 +63,7 @@ fn values_are_parts_of_the_image() {
 fn counts_of_the_small_image() {
     let bytes = small::image();
     let sound = small::of(&bytes).judge().unwrap();
-    assert_eq!((sound.entries(), sound.pages()), (12, 7));
+    assert_eq!((sound.entries(), sound.pages()), (12, 8));
     assert_eq!(Image::of_file(&bytes).unwrap().judge().unwrap().entries(), 12);
 }
 

@@ -5,18 +5,19 @@ use tyvarmos::{Fault, Image, Number};
 use crate::cause;
 use crate::layout::{Block, Element, Header, Pages, Part, FREELIST, LEAF};
 use crate::meant::Meant;
-use crate::trace::{Named, Trace};
+use crate::trace::{Named, Reached, Trace};
+use crate::twice::Twice;
 use crate::walk::Step;
 
 /// All that was found about a fault.
 pub struct Context {
     /// Which cause of the number it is.
     pub cause: Option<String>,
-    /// What named the fault's page.
+    /// What named the block that the fault is in.
     pub named: Option<Place>,
-    /// For 8, the page in question and what named it first.
-    pub first: Option<(u64, Place)>,
-    /// The header of the fault's page, and where in the file it stands.
+    /// For 8, the page in question, and what named the block that had it first.
+    pub twice: Option<(Twice, Place)>,
+    /// The header of the block that the fault is in, and where in the file it stands.
     pub header: Option<(u64, Header)>,
     /// The numbers of the fault's element, and where in the file it stands.
     pub element: Option<(u64, Numbers)>,
@@ -28,8 +29,9 @@ pub struct Context {
     pub rows: String,
 }
 
-/// What names a page, and where in the file the page number stands; the command line has no such place.
+/// What names a page, and where in the file its number stands; the command line has no such place.
 pub struct Place {
+    pub page: u64,
     pub named: Named,
     pub byte: Option<u64>,
 }
@@ -59,23 +61,26 @@ impl Context {
     /// The context of a fault in the tree that is meant, from the way to it.
     pub fn of(image: &Image, meant: &Meant, fault: &Fault, trace: Trace) -> Context {
         let pages = Pages::of(image);
-        let reached = fault.number != Number::PageNumber;
-        let block = fault.page.filter(|_| reached).and_then(|page| pages.block(page));
-        let place = |named: Named| Place { byte: byte_of(pages, meant, &named), named };
-        let range = match &trace.named {
-            Some(Named::Tree(steps)) if fault.number == Number::Range => {
+        let twice = Twice::of(pages, fault, &trace);
+        let first = trace.fault.as_ref().map(|reached| reached.page).or(fault.page);
+        let block = first.filter(|_| fault.number != Number::PageNumber).and_then(|page| pages.block(page));
+        let place = |Reached { page, named }| Place { page, byte: byte_of(pages, meant, &named), named };
+        let named = trace.fault.map(place);
+        let cause = cause::of(pages, block.as_ref(), fault, named.as_ref().map(|place| &place.named));
+        let range = match &named {
+            Some(Place { named: Named::Tree(steps), .. }) if fault.number == Number::Range => {
                 range(pages, steps, block.as_ref(), fault.element)
             }
             _ => None,
         };
         Context {
-            cause: cause::of(pages, block.as_ref(), fault, trace.named.as_ref()),
+            cause: cause.or(twice.as_ref().map(Twice::to_string)),
             header: block.as_ref().map(|block| (block.start, block.header)),
             element: block.as_ref().and_then(|block| numbers(block, fault.element?)),
             keys: block.as_ref().map_or(Vec::new(), |block| keys(block, fault)),
-            rows: block.map_or_else(|| naming_rows(pages, &trace.named), |block| rows(&block, fault)),
-            named: trace.named.map(place),
-            first: trace.first.map(|(page, named)| (page, place(named))),
+            rows: block.map_or_else(|| naming_rows(pages, named.as_ref()), |block| rows(&block, fault)),
+            named,
+            twice: twice.zip(trace.first.map(|(_, first)| place(first))),
             range,
         }
     }
@@ -127,8 +132,8 @@ fn range(pages: Pages, steps: &[Step], block: Option<&Block>, element: Option<u6
 }
 
 /// The element that names a page which the image has not, in rows.
-fn naming_rows(pages: Pages, named: &Option<Named>) -> String {
-    let Some(Named::Tree(steps)) = named else {
+fn naming_rows(pages: Pages, place: Option<&Place>) -> String {
+    let Some(Place { named: Named::Tree(steps), .. }) = place else {
         return String::new();
     };
     let part = steps.last().and_then(|step| {

@@ -39,6 +39,11 @@ impl<'a> Pages<'a> {
         let length = usize::try_from((last - page + 1).saturating_mul(self.page_size)).unwrap_or(usize::MAX);
         Some(Block { last, start, header, bytes: &from[..length.min(from.len())] })
     }
+
+    /// Whether the block that starts at a page has another one, or is it.
+    pub fn has(&self, first: u64, page: u64) -> bool {
+        self.block(first).is_some_and(|block| (first..=block.last).contains(&page))
+    }
 }
 
 /// The first 32 bytes of a page.

@@ -21,6 +21,7 @@ mod refusal;
 mod stop;
 mod text;
 mod trace;
+mod twice;
 mod verdict;
 mod walk;
 mod words;

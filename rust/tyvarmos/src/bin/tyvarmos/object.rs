@@ -29,10 +29,10 @@ pub fn of_verdict(verdict: &Verdict, options: &Options, source: &Source) -> Stri
     }
     object.number_or_null("scope", verdict.meant.as_ref().map(|meant| scope(meant, &verdict.outcome)));
     match &verdict.outcome {
-        Outcome::Sound { entries, blocks, free_pages, time, .. } => {
+        Outcome::Sound { entries, pages, free_pages, time, .. } => {
             object.text("verdict", "sound");
             object.number("entries", entries);
-            object.number("blocks", blocks);
+            object.number("pages", pages);
             object.number("free_pages", free_pages);
             object.number("seconds", format!("{:.6}", time.as_secs_f64()));
         }

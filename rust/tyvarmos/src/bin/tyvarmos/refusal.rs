@@ -149,14 +149,13 @@ fn whole_pages(held: u64, page_size: u64) -> String {
 /// The pages of the blocks on a way that could not be read. Of the fault's own block those that its rule looks at.
 fn needed(image: &Image, trace: &Trace, fault: Option<&Fault>, unread: &BTreeSet<u64>) -> BTreeSet<u64> {
     let pages = Pages::of(image);
-    let looked_at = |page: u64| {
-        let fault = fault.filter(|fault| fault.page == Some(page));
-        match fault.map(|fault| fault.number) {
-            Some(Number::TooDeep | Number::PageNumber) => None,
-            Some(Number::Header | Number::Table) => Some(page..=page),
-            _ => Some(page..=pages.block(page)?.last),
-        }
+    let whole = |page: u64| Some(page..=pages.block(page)?.last);
+    let looked_at = |page: u64, fault: &Fault| match (fault.number, fault.element) {
+        (Number::TooDeep | Number::PageNumber, _) => None,
+        (Number::Header | Number::Table, _) | (Number::ReachedTwice, None) => Some(page..=page),
+        _ => whole(page),
     };
-    let looked_at = trace.met.iter().filter_map(|page| looked_at(*page));
+    let own = trace.fault.as_ref().zip(fault).and_then(|(reached, fault)| looked_at(reached.page, fault));
+    let looked_at = trace.met.iter().filter_map(|page| whole(*page)).chain(own);
     looked_at.flat_map(|pages| unread.range(pages)).copied().collect()
 }

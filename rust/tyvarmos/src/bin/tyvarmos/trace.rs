@@ -1,4 +1,4 @@
-//! Where a fault stands in its tree: what named its page, and which other place names it too.
+//! Where a fault stands in its tree: the block that it is in, what named that, and which block had its page before.
 
 use std::ops::ControlFlow;
 
@@ -16,21 +16,28 @@ pub enum Named {
     Freelist,
 }
 
+/// A block that was reached: the page that it starts with, and what named that.
+pub struct Reached {
+    pub page: u64,
+    pub named: Named,
+}
+
 /// The way of the judge, or of a lookup, up to a fault or to its end.
 #[derive(Default)]
 pub struct Trace {
-    /// Every page that was named on the way.
+    /// The first page of every block that was named on the way, but for the fault's.
     pub met: Vec<u64>,
-    /// What named the fault's page.
-    pub named: Option<Named>,
-    /// For a page reached twice, or listed as free though it is in use: the page, and what named it first.
-    pub first: Option<(u64, Named)>,
+    /// The block that the fault is in.
+    pub fault: Option<Reached>,
+    /// For a page that is used twice: the page, and the block that had it first.
+    pub first: Option<(u64, Reached)>,
 }
 
 /// The judge's way through an image, up to this fault where there is one.
 pub fn judged(image: &Image, fault: Option<&Fault>) -> Trace {
     let mut trace = Trace::default();
-    let ended = walk::all(Pages::of(image), image.tree().root_page, &mut |page, steps| trace.see(fault, page, steps));
+    let pages = Pages::of(image);
+    let ended = walk::all(pages, image.tree().root_page, &mut |page, steps| trace.see(pages, fault, page, steps));
     if ended.is_continue() {
         trace.see_freelist(fault, image);
     }
@@ -40,54 +47,59 @@ pub fn judged(image: &Image, fault: Option<&Fault>) -> Trace {
 /// The way to a key, up to this fault where there is one.
 pub fn looked(image: &Image, key: &[u8], fault: Option<&Fault>) -> Trace {
     let mut trace = Trace::default();
-    let root = image.tree().root_page;
-    let _ = walk::to_key(Pages::of(image), root, key, &mut |page, steps| trace.see(fault, page, steps));
+    let (pages, root) = (Pages::of(image), image.tree().root_page);
+    let _ = walk::to_key(pages, root, key, &mut |page, steps| trace.see(pages, fault, page, steps));
     trace
 }
 
 impl Trace {
-    /// Keeps a page, and the steps to one that the fault is about; ends the walk where they lead to the fault.
-    fn see(&mut self, fault: Option<&Fault>, page: u64, steps: &[Step]) -> ControlFlow<()> {
-        self.met.push(page);
-        let Some(fault) = fault.filter(|fault| fault.page == Some(page)) else {
-            return ControlFlow::Continue(());
-        };
-        let named = Named::Tree(steps.to_vec());
-        match fault.number {
-            Number::TooDeep if steps.len() < LEVELS => return ControlFlow::Continue(()),
-            Number::ReachedTwice if self.first.is_none() => {
-                self.first = Some((page, named));
-                return ControlFlow::Continue(());
+    /// Keeps a page, and the steps to a block that the fault is about; ends the walk where they lead to the fault.
+    fn see(&mut self, pages: Pages, fault: Option<&Fault>, page: u64, steps: &[Step]) -> ControlFlow<()> {
+        let reached = || Reached { page, named: Named::Tree(steps.to_vec()) };
+        match fault.filter(|fault| is_about(pages, fault, page)).map(|fault| (fault.number, fault.page)) {
+            Some((Number::ReachedTwice, Some(twice))) if self.first.is_none() => self.first = Some((twice, reached())),
+            Some((number, _)) if number != Number::TooDeep || steps.len() == LEVELS => {
+                self.fault = Some(reached());
+                return ControlFlow::Break(());
             }
-            _ => self.named = Some(named),
+            _ => {}
         }
-        ControlFlow::Break(())
+        self.met.push(page);
+        ControlFlow::Continue(())
     }
 
-    /// Keeps the freelist page, and that the fault is there; one about a free id has a first place to be found.
+    /// Keeps the freelist page, or that the fault is there; of one about a free id, the block that has that page.
     fn see_freelist(&mut self, fault: Option<&Fault>, image: &Image) {
-        let page = image.tree().freelist_page;
-        self.met.push(page);
-        let Some(fault) = fault.filter(|fault| fault.page == Some(page)) else {
-            return;
+        let (pages, page) = (Pages::of(image), image.tree().freelist_page);
+        let Some(fault) = fault.filter(|fault| is_about(pages, fault, page)) else {
+            return self.met.push(page);
         };
-        self.named = Some(Named::Freelist);
+        self.fault = Some(Reached { page, named: Named::Freelist });
         if let (Number::ReachedTwice, Some(element)) = (fault.number, fault.element) {
-            let id = Pages::of(image).block(page).and_then(|block| block.number(element));
-            self.first = id.and_then(|id| Some((id, first_named(image, id)?)));
+            let id = pages.block(page).and_then(|block| block.number(element));
+            self.first = id.and_then(|id| Some((id, first_with(image, id)?)));
         }
     }
 }
 
-/// What first names a page that is in use: the tree, or the freelist's own page.
-fn first_named(image: &Image, wanted: u64) -> Option<Named> {
-    let mut named = (wanted == image.tree().freelist_page).then_some(Named::Freelist);
-    let _ = walk::all(Pages::of(image), image.tree().root_page, &mut |page, steps| {
-        if page != wanted {
+/// Whether a fault may be about the block that starts at a page: it names this page or, as used twice, any of the block.
+fn is_about(pages: Pages, fault: &Fault, page: u64) -> bool {
+    match (fault.number, fault.page) {
+        (Number::ReachedTwice, Some(twice)) => pages.has(page, twice),
+        (_, named) => named == Some(page),
+    }
+}
+
+/// The first block that has a page: one of the tree's, or the freelist's own.
+fn first_with(image: &Image, wanted: u64) -> Option<Reached> {
+    let (pages, freelist) = (Pages::of(image), image.tree().freelist_page);
+    let mut first = pages.has(freelist, wanted).then_some(Reached { page: freelist, named: Named::Freelist });
+    let _ = walk::all(pages, image.tree().root_page, &mut |page, steps| {
+        if !pages.has(page, wanted) {
             return ControlFlow::Continue(());
         }
-        named = Some(Named::Tree(steps.to_vec()));
+        first = Some(Reached { page, named: Named::Tree(steps.to_vec()) });
         ControlFlow::Break(())
     });
-    named
+    first
 }

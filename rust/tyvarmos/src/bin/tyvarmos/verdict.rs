@@ -27,7 +27,7 @@ pub struct Verdict {
 }
 
 pub enum Outcome {
-    Sound { entries: u64, blocks: u64, free_pages: u64, buckets: Buckets, time: Duration },
+    Sound { entries: u64, pages: u64, free_pages: u64, buckets: Buckets, time: Duration },
     Refused(Box<Refusal>),
     Absent(String),
 }
@@ -92,7 +92,7 @@ fn passed(sound: &Sound, time: Duration) -> Outcome {
     let image = sound.image();
     let freelist = Pages::of(&image).block(image.tree().freelist_page);
     let free_pages = freelist.map_or(0, |block| block.header.count);
-    Outcome::Sound { entries: sound.entries(), blocks: sound.pages(), free_pages, buckets: Buckets::of(&image), time }
+    Outcome::Sound { entries: sound.entries(), pages: sound.pages(), free_pages, buckets: Buckets::of(&image), time }
 }
 
 #[cfg(test)]
@@ -113,10 +113,16 @@ mod tests {
 
     /// The verdict on the example with these bytes unreadable, and what is said about it.
     fn verdict(bad: &[(u64, u64)], words: &[&str]) -> (Verdict, String) {
+        verdict_on(EXAMPLE.to_vec(), bad, words)
+    }
+
+    /// The verdict on a file with these bytes unreadable, and what is said about it.
+    fn verdict_on(bytes: Vec<u8>, bad: &[(u64, u64)], words: &[&str]) -> (Verdict, String) {
         let words = ["judge", "dying"].iter().chain(words).map(OsString::from);
         let Ok(Wanted::Work(options)) = args::parse(words) else { panic!("no work") };
-        let media = Failing { bytes: EXAMPLE.to_vec(), bad: bad.to_vec() };
-        let source = Source::new(Path::new("dying"), Box::new(media), EXAMPLE.len() as u64).unwrap();
+        let length = bytes.len() as u64;
+        let media = Failing { bytes, bad: bad.to_vec() };
+        let source = Source::new(Path::new("dying"), Box::new(media), length).unwrap();
         let progress = Progress::start(&[]);
         let verdict = Verdict::on(&options, &source, &progress.share(source.length)).unwrap();
         let said = words::of_judge(&verdict, &options, &source);
@@ -181,6 +187,20 @@ mod tests {
         let (verdict, said) = verdict(&[sector(10)], &["--root", "66"]);
         assert_eq!(verdict.status(), crate::stop::REFUSED);
         assert!(said.contains("page 66: the header is not that of the page wanted"), "{said}");
+    }
+
+    #[test]
+    fn of_a_block_that_shares_pages_only_the_first_is_needed() {
+        let mut bytes = EXAMPLE.to_vec();
+        bytes[66 * PAGE as usize + 24] = 40;
+        let (verdict, said) = verdict_on(bytes.clone(), &[sector(80)], &["--bucket=world"]);
+        assert_eq!(verdict.status(), crate::stop::REFUSED);
+        let cause = "page 97 is part of the leaf on pages 97 to 101, and of the freelist on pages 66 to 106";
+        assert!(said.contains(&format!("  cause     {cause}\n")), "{said}");
+        for page in [66, 98] {
+            let (verdict, said) = verdict_on(bytes.clone(), &[sector(80), sector(page)], &["--bucket=world"]);
+            assert_eq!(verdict.status(), UNREADABLE, "{said}");
+        }
     }
 
     #[test]

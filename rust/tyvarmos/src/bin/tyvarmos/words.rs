@@ -32,8 +32,8 @@ pub fn of_judge(verdict: &Verdict, options: &Options, source: &Source) -> String
     }
     text += &about(verdict, options);
     match &verdict.outcome {
-        Outcome::Sound { entries, blocks, buckets, time, .. } => {
-            let _ = writeln!(text, "  counted   {entries} entries in {blocks} blocks, the freelist's included");
+        Outcome::Sound { entries, pages, buckets, time, .. } => {
+            let _ = writeln!(text, "  counted   {entries} entries in {pages} pages, the freelist's included");
             let _ = writeln!(text, "  time      {}", took(*time));
             let _ = writeln!(text, "  buckets   {}", bucket_names(buckets));
         }
@@ -74,9 +74,9 @@ pub fn of_stat(verdict: &Verdict, options: &Options, source: &Source) -> String 
     }
     let headline = headline(verdict, options);
     match &verdict.outcome {
-        Outcome::Sound { entries, blocks, free_pages, .. } => {
+        Outcome::Sound { entries, pages, free_pages, .. } => {
             let _ = writeln!(text, "  free      {free_pages} pages");
-            let counts = format!("{entries} entries in {blocks} blocks, the freelist's included");
+            let counts = format!("{entries} entries in {pages} pages, the freelist's included");
             let _ = writeln!(text, "  verdict   {headline}: {counts}");
         }
         Outcome::Refused(refusal) => {

@@ -5,6 +5,7 @@ use crate::json::Object;
 use crate::layout::Header;
 use crate::meant::Meant;
 use crate::trace::Named;
+use crate::twice::Extent;
 use crate::walk::Step;
 
 /// The context as an object.
@@ -15,8 +16,9 @@ pub fn of(context: &Context, meant: &Meant) -> Object {
         object.text("cause", cause);
     }
     object.number_or_null("named_by", context.named.as_ref().map(|place| place_object(place, meant)));
-    if let Some((page, place)) = &context.first {
-        object.number("page_in_use", page);
+    if let Some((twice, place)) = &context.twice {
+        object.number("page_in_use", twice.page);
+        object.list("used_by", twice.blocks().map(extent_object));
         object.number("first_named_by", place_object(place, meant));
     }
     if let Some((byte, header)) = &context.header {
@@ -60,6 +62,14 @@ fn place_object(place: &Place, meant: &Meant) -> Object {
     object.number_or_null("element", steps.last().map(|step| step.element));
     object.number_or_null("byte", place.byte);
     object.list("path", steps.iter().map(step_object));
+    object
+}
+
+fn extent_object(extent: Extent) -> Object {
+    let mut object = Object::default();
+    object.number("first_page", extent.first);
+    object.number("last_page", extent.last);
+    object.text("type_name", extent.type_name);
     object
 }
 

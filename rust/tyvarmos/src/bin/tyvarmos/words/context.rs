@@ -10,12 +10,13 @@ use crate::walk::Step;
 /// The lines that a person reads below a refusal.
 pub fn lines(context: &Context, meant: &Meant, page: u64) -> String {
     let mut lines: Vec<String> = context.cause.iter().map(|cause| format!("cause     {cause}")).collect();
+    let page = context.named.as_ref().map_or(page, |place| place.page);
     if let Some(place) = &context.named {
-        lines.push(format!("path      {}", path(&place.named, meant, page)));
+        lines.push(format!("path      {}", path(place, meant)));
         lines.push(format!("named     page {page} is named by {}", named_by(place, meant)));
     }
-    if let Some((page, place)) = &context.first {
-        lines.push(format!("in use    page {page} is also named by {}", named_by(place, meant)));
+    if let Some((twice, place)) = &context.twice {
+        lines.push(format!("in use    {} is named by {}", twice.first, named_by(place, meant)));
     }
     if let Some((byte, header)) = &context.header {
         lines.push(format!("header    page {page} at byte {byte}: {}", header_words(header)));
@@ -31,12 +32,12 @@ pub fn lines(context: &Context, meant: &Meant, page: u64) -> String {
 }
 
 /// The pages from the root on, each with the element that names the next.
-fn path(named: &Named, meant: &Meant, page: u64) -> String {
-    let Named::Tree(steps) = named else {
-        return format!("freelist page {page}");
+fn path(place: &Place, meant: &Meant) -> String {
+    let Named::Tree(steps) = &place.named else {
+        return format!("freelist page {}", place.page);
     };
     let steps = steps.iter().map(|step| format!("page {}, element {}", step.page, step.element));
-    let way: Vec<String> = steps.chain([format!("page {page}")]).collect();
+    let way: Vec<String> = steps.chain([format!("page {}", place.page)]).collect();
     format!("{}: root {}", meant.name(), way.join(" > "))
 }
 
