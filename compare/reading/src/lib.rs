@@ -1,5 +1,5 @@
-//! Document 01, as 02's order 3 amends it, read plainly, from their text alone: straight code over byte slices, with sums
-//! that cannot wrap.
+//! Document 01, as 02's order 3 amends it, read plainly, from their text alone: straight code over byte slices, with
+//! sums that cannot wrap.
 //!
 //! Nothing here is fast or clever. It is what the crate and the proved code are held against.
 

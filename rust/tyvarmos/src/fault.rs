@@ -18,7 +18,7 @@ use crate::{Geometry, Number};
 pub struct Fault {
     /// The rule that was broken.
     pub number: Number,
-    /// The page that broke it; of two blocks that share pages the lowest of these. None for [`Number::Geometry`] and for
+    /// The page that broke it; of a block that shares pages the lowest of these. None for [`Number::Geometry`] and for
     /// meta pages.
     pub page: Option<u64>,
     /// The element of that page, or the free id, counted from 0. None where the page as a whole broke the rule.

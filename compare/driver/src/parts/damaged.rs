@@ -99,8 +99,8 @@ fn made(rng: &mut Rng, plan: &Plan) -> Made {
     Made { image: Image { bytes: view.bytes, p, n, root: roots[0], freelist }, trees, keys }
 }
 
-/// One kind of damage, mostly to the tree: a byte, a field, blocks that overlap, pages swapped or copied, garbage, another
-/// root or freelist.
+/// One kind of damage, mostly to the tree: a byte, a field, blocks that overlap, pages swapped or copied, garbage,
+/// another root or freelist.
 fn damage(rng: &mut Rng, image: &mut Image, tree: &[Span]) {
     let (p, n) = (image.p as usize, image.n);
     let (at, other) = (image.start(rng.pick(tree).0), rng.between(2, n - 1) as usize * p);

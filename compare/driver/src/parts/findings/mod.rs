@@ -1,5 +1,5 @@
-//! Every difference of docs/DIFFERENCES.md with its smallest input: what the crate does, and what 01 says. The lost shard
-//! of 02's order 3, on which they agree.
+//! Every difference of docs/DIFFERENCES.md with its smallest input: what the crate does, and what 01 says. The lost
+//! shard of 02's order 3, on which they agree.
 
 mod blocks;
 mod files;

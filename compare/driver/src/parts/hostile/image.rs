@@ -25,7 +25,7 @@ pub fn run(run: &mut Run, round: usize, seen: &mut Seen) {
     }
 }
 
-/// One or two changes: to a field, to a page named, to the freelist page, to blocks that then overlap; or to the geometry.
+/// One or two changes: to a field, a page named, the freelist page or blocks, which then overlap; or to the geometry.
 fn disturb(rng: &mut Rng, image: &mut Image, spans: &[Span]) {
     for _ in 0..rng.between(1, 2) {
         let (at, other) = (image.start(rng.pick(spans).0), rng.pick(spans).0);

@@ -82,7 +82,7 @@ impl Trace {
     }
 }
 
-/// Whether a fault may be about the block that starts at a page: it names this page or, as used twice, any of the block.
+/// Whether a fault may be about the block that starts at a page: it names the page or, as used twice, any of the block.
 fn is_about(pages: Pages, fault: &Fault, page: u64) -> bool {
     match (fault.number, fault.page) {
         (Number::ReachedTwice, Some(twice)) => pages.has(page, twice),

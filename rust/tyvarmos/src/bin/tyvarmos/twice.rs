@@ -1,4 +1,4 @@
-//! A page that is used twice: the blocks that it is part of, or the free id that names it. Read again in Rust, not proved.
+//! A page that is used twice: the blocks that it is part of, the free id that names it. Read again in Rust, not proved.
 
 use std::fmt;
 
