@@ -54,7 +54,7 @@ enum tyvarmos_number {
     TYVARMOS_ELEMENT = 5,          /* an element that is not inside its block, or is of no known kind */
     TYVARMOS_ORDER = 6,            /* a key, or a free id, that is not above the one before it */
     TYVARMOS_RANGE = 7,            /* a key outside the range that the branches above give its page */
-    TYVARMOS_REACHED_TWICE = 8,    /* a page that is part of two blocks, or of one and listed as free */
+    TYVARMOS_REACHED_TWICE = 8,    /* a page of two blocks, of one that is named twice, or of one and listed as free */
     TYVARMOS_TOO_DEEP = 9,         /* a tree of more than 16 levels */
     TYVARMOS_OUTPUT_TOO_SHORT = 10,
     TYVARMOS_ARGUMENT = 11,        /* of tyvarmos_meta: the meta page is one of another page size */
@@ -101,10 +101,10 @@ enum tyvarmos_judge_field {
  * Judges the tree under root_page and the freelist page: TYVARMOS_DONE if they are sound, and else the first breach. The
  * trees of buckets are not part of it; judge each by its own root page.
  *
- * A block's overflow pages are part of it, and no page may be part of two blocks, or of one and listed as free.
- * TYVARMOS_REACHED_TWICE names the lowest page of a block that was part of another one before, with element 0, or
- * freelist_page and the index of a free id. Where it names freelist_page and element 0, it is about that page if it is
- * part of a block of the tree, and else about the first free id.
+ * A block's overflow pages are part of it, and no page may be used twice: by two blocks, by one that is named twice, or
+ * by one and the freelist's ids. TYVARMOS_REACHED_TWICE names the lowest page of a block that was used before, with
+ * element 0, or freelist_page and the index of a free id. Where it names freelist_page and element 0, it is about that
+ * page if it is part of a block of the tree, and else about the first free id.
  */
 uint64_t tyvarmos_judge(const void *image, size_t image_len, uint64_t page_size, uint64_t page_count,
                         uint64_t root_page, uint64_t freelist_page, void *answer, size_t answer_len);

@@ -48,7 +48,6 @@ idsOf N marked b =
     (andThen (firstBad (idOutside N b) 5 (countOf b) 0)
     (andThen (firstBad (idNotAbove b) 6 (countOf b - 1) 1) (firstBad (idMarked marked b) 8 (countOf b) 0)))
 
--- ---- the whole image
 abbrev pub judgedOf : Verdict → ℕ → ℕ → ℕ → Judged
 judgedOf verdict.Sound f entries pages = Sound entries pages
 judgedOf (verdict.Breach number element) f entries pages = Refused (faultAt number f element)
@@ -67,6 +66,7 @@ freelistOf image P N f entries vs =
     (refusedIfTwice (firstIn (pagesAt image P f) vs)
     (judgedOf (idsOf N (pagesAt image P f ++ vs) (blockOf image P f)) f entries (length (pagesAt image P f ++ vs)))))
 
+-- ---- the whole image
 abbrev pub afterTree : List ℕ → ℕ → ℕ → ℕ → Walk → Judged
 afterTree image P N f (pass n vs) = freelistOf image P N f n vs
 afterTree image P N f (fault number page element) = Refused (faultAt number page element)

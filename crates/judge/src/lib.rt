@@ -214,7 +214,7 @@ fn judge_branch(
     }
 }
 
-// The judge of an image: the counts of leaf entries and pages reached, or the first breach in 01's order.
+// The judge of an image: the counts of leaf entries and pages reached, or the first breach in the order of the rules.
 pub fn judge(image: &[u8], p: usize, n: usize, root: usize, f: usize) -> Judged
     ensures { λ r. ⌜ r ≡ judgeOf (now (image .entry)) p n root f ⌝ }
 {

@@ -145,7 +145,8 @@ lookPage go (branch cs) page key = go (childFor cs key)
 lookPage go (leaf es) page key = seekFrom es key page 0
 
 -- ---- the tree, by the number of pages, the pages of each one's block, rising, and the view of each, as the root's level or below
--- a page whose header is refused has no block: rule 3 finds nothing there, and the view refuses it
+-- 01: rules 1 to 8 in this order; 02's order 3: rule 3 comes directly after rule 4 and marks every page of the block, and if any is marked already, 8, naming
+-- the lowest. Rules 4 to 7 are the view's; a page that rule 4 refuses has no block, so rule 3 finds nothing there and the view refuses it
 module _ {P : Type 0} (N : ℕ) (block : ℕ → List ℕ) (view : ℕ → Bool → View P) where
   unfoldable pub walk : ℕ → Bool → ℕ → Key → Option Key → List ℕ → Verdict
   walk zero top page low high vs = fault 9 page 0

@@ -28,7 +28,7 @@ pub enum Number {
     Order,
     /// 7: a key outside the range that the branches above give its page.
     Range,
-    /// 8: a page that is part of two blocks, or of one and listed as free.
+    /// 8: a page that is part of two blocks, of one that is named twice, or of one and listed as free.
     ReachedTwice,
     /// 9: a tree of more than 16 levels.
     TooDeep,
@@ -95,7 +95,7 @@ impl Number {
             }
             Number::Order => "this key (in a freelist, this id) is not above the one before it",
             Number::Range => "this key is outside the range that the branches above give its page",
-            Number::ReachedTwice => "a page is used twice: it is part of two blocks, or of one and listed as free",
+            Number::ReachedTwice => "a page is used twice: it is part of two blocks, of one that is named twice, or of one and listed as free",
             Number::TooDeep => "the tree is deeper than 16 levels",
             Number::OutputTooShort => "the output is too short",
             Number::Argument => "an argument is not allowed, or the meta page is one of another page size",

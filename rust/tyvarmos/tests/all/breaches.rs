@@ -81,15 +81,15 @@ const LEAF_AS_FREELIST: &str =
     "page 4: the header is not that of the page wanted: another id, another type, or a block past the last page (3)";
 const FREELIST_HEADER: &str =
     "page 2: the header is not that of the page wanted: another id, another type, or a block past the last page (3)";
-const TWICE: &str = "page 4: a page is used twice: it is part of two blocks, or of one and listed as free (8)";
-const OVERLAP: &str = "page 7: a page is used twice: it is part of two blocks, or of one and listed as free (8)";
+const TWICE: &str = "page 4: a page is used twice: it is part of two blocks, of one that is named twice, or of one and listed as free (8)";
+const OVERLAP: &str = "page 7: a page is used twice: it is part of two blocks, of one that is named twice, or of one and listed as free (8)";
 const FREELIST_OVERLAP: &str =
-    "page 3: a page is used twice: it is part of two blocks, or of one and listed as free (8)";
-const FREELIST_PAGE: &str = "page 6: a page is used twice: it is part of two blocks, or of one and listed as free (8)";
+    "page 3: a page is used twice: it is part of two blocks, of one that is named twice, or of one and listed as free (8)";
+const FREELIST_PAGE: &str = "page 6: a page is used twice: it is part of two blocks, of one that is named twice, or of one and listed as free (8)";
 const FREE_ID_0: &str =
-    "page 2, element 0: a page is used twice: it is part of two blocks, or of one and listed as free (8)";
+    "page 2, element 0: a page is used twice: it is part of two blocks, of one that is named twice, or of one and listed as free (8)";
 const FREE_ID: &str =
-    "page 2, element 1: a page is used twice: it is part of two blocks, or of one and listed as free (8)";
+    "page 2, element 1: a page is used twice: it is part of two blocks, of one that is named twice, or of one and listed as free (8)";
 const DEPTH: &str = "page 18: the tree is deeper than 16 levels (9)";
 
 /// A breach of each rule, and of the freelist's.

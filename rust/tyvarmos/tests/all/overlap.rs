@@ -107,7 +107,7 @@ fn the_lost_shard() {
     let lost = shard().listing(14, 1, &[4, 6, 11]);
     assert_eq!(lost.fault(), id(14, 1));
     let sentence =
-        "page 14, element 1: a page is used twice: it is part of two blocks, or of one and listed as free (8)";
+        "page 14, element 1: a page is used twice: it is part of two blocks, of one that is named twice, or of one and listed as free (8)";
     assert_eq!(lost.fault().to_string(), sentence);
     assert_eq!(lost.image().lookup(b"b").unwrap().unwrap().value, vec![7; P as usize + 200]);
     assert_eq!(shard().listing(14, 1, &[4, 7, 11]).counts().0, 3);

@@ -58,15 +58,20 @@ fn byte_put(paper_text: &str, copy: &str) -> (usize, u8) {
 }
 
 /// Judges the example with a byte put there, as a file of this name, by the words that a paper has for it.
-fn judged_with((at, byte): (usize, u8), paper_text: &str, copy: &str) -> Done {
+fn judged_with(put: (usize, u8), paper_text: &str, copy: &str) -> Done {
     let (_, words) = paper_text.split_once(&format!("    ./tyvarmos judge {copy}")).unwrap();
     let words = ["judge", copy].into_iter().chain(words.lines().next().unwrap().split_whitespace());
+    judged_by(&words.collect::<Vec<_>>(), put, copy)
+}
+
+/// Judges the example with a byte put there, as a file of this name, by these words.
+fn judged_by(words: &[&str], (at, byte): (usize, u8), copy: &str) -> Done {
     let folder = Temporary::nothing("judged-with");
     fs::create_dir(&folder.path).unwrap();
     let mut bytes = example();
     bytes[at] = byte;
     fs::write(folder.path.join(copy), bytes).unwrap();
-    run_in(folder.path.to_str().unwrap(), &words.collect::<Vec<_>>())
+    run_in(folder.path.to_str().unwrap(), words)
 }
 
 #[test]
@@ -91,6 +96,17 @@ fn the_examples_lose_a_shard_and_show_it_named() {
     let id = (at - 66 * 1_024 - 32) / 8;
     assert!(examples.contains(&format!("Free id {id}, on page 66, was {} and is {byte} now", example()[at])));
     assert!(done.text().contains(&format!("  page 66, element {id}: ")));
+    let main = judged_by(&["judge", "lost.db"], (at, byte), "lost.db");
+    assert_eq!(main.status, 0, "{}", main.text());
+}
+
+#[test]
+fn the_examples_share_a_page_and_show_it_named() {
+    let examples = paper("examples/README.md");
+    let (at, byte) = byte_put(&examples, "shared.db");
+    let done = judged_with((at, byte), &examples, "shared.db");
+    assert_eq!((done.status, at, byte), (2, 8 * 1_024 + 24, 1));
+    check_shown(&shown(&examples, "shared.db: "), &done);
 }
 
 #[test]

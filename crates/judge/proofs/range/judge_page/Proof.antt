@@ -1,4 +1,4 @@
--- `judge::range::judge_page` meets its contract: the header, then the block. Assumes nothing.
+-- `judge::range::judge_page` meets its contract: the block, whose header is sound. Assumes nothing.
 use mathlib.Core.Path.{_≡_, sym, ap, _∙_}
 use Prim.Native.Nat.{_*_, _≤_}
 use borrow.Author.Needs.{needs}
