@@ -18,10 +18,16 @@ struct bytes {
     size_t length;
 };
 
-/* Says why the file is refused and ends the program. */
-static void refuse(const char *call, uint64_t number, uint64_t page, uint64_t element)
+/*
+ * Says why the file is refused, by the last three fields of an answer, and ends the program. A 7 is always about two
+ * keys; a 6 may be about free ids, which have nothing in common.
+ */
+static void refuse(const char *call, uint64_t number, const uint64_t *named)
 {
-    fprintf(stderr, "%s: %" PRIu64 ", page %" PRIu64 ", element %" PRIu64 "\n", call, number, page, element);
+    fprintf(stderr, "%s: %" PRIu64 ", page %" PRIu64 ", element %" PRIu64, call, number, named[0], named[1]);
+    if (number == TYVARMOS_RANGE || named[2] > 0)
+        fprintf(stderr, ", bytes in common from the first on: %" PRIu64, named[2]);
+    fprintf(stderr, "\n");
     exit(2);
 }
 
@@ -56,11 +62,11 @@ static struct bytes find(struct bytes file, const uint64_t *meta, uint64_t root_
     number = tyvarmos_judge(file.start, file.length, page_size, page_count, root_page, freelist_page, judged,
                             sizeof judged);
     if (number != TYVARMOS_DONE)
-        refuse("judge", number, judged[TYVARMOS_JUDGE_PAGE], judged[TYVARMOS_JUDGE_ELEMENT]);
+        refuse("judge", number, judged + TYVARMOS_JUDGE_PAGE);
     number = tyvarmos_lookup(file.start, file.length, page_size, page_count, root_page, key, strlen(key), looked,
                              sizeof looked);
     if (number != TYVARMOS_DONE)
-        refuse("lookup", number, looked[TYVARMOS_LOOKUP_PAGE], looked[TYVARMOS_LOOKUP_ELEMENT]);
+        refuse("lookup", number, looked + TYVARMOS_LOOKUP_PAGE);
     if (looked[TYVARMOS_LOOKUP_FOUND] == 0 || looked[TYVARMOS_LOOKUP_KIND] != kind) {
         fprintf(stderr, "there is no %s %s\n", kind == 0 ? "key" : "bucket", key);
         exit(1);
@@ -72,6 +78,7 @@ static struct bytes find(struct bytes file, const uint64_t *meta, uint64_t root_
 
 int main(int count, char **words)
 {
+    const uint64_t nothing[3] = {0, 0, 0};
     uint64_t meta[TYVARMOS_META_FIELDS], number, root_page;
     struct bytes file, bucket, value;
     if (count != 4) {
@@ -81,7 +88,7 @@ int main(int count, char **words)
     file = read_file(words[1]);
     number = tyvarmos_meta(file.start, file.length, 0, meta, sizeof meta);
     if (number != TYVARMOS_DONE)
-        refuse("meta", number, 0, 0);
+        refuse("meta", number, nothing);
     bucket = find(file, meta, meta[TYVARMOS_META_ROOT_PAGE], words[2], 1);
     memcpy(&root_page, bucket.start, sizeof root_page);
     value = find(file, meta, root_page, words[3], 0);

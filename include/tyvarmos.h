@@ -20,7 +20,13 @@
  * Numbers:   Any may be given. What does not fit is refused.
  * Answer:    Fields of 8 bytes, little-endian, at the indexes named below. A buffer of fewer bytes than the fields take
  *            is refused with TYVARMOS_GEOMETRY and stays as it was; bytes after the fields stay. On a refusal the page
- *            and the element that broke the rule are in their fields, 0 where it names none, and all others are 0.
+ *            and the element that broke the rule are in their fields, 0 where it names none, and all others are 0 but
+ *            for the common field.
+ * Common:    Where a key is out of order (6) or out of its range (7), this field has how many bytes it has in common
+ *            with the other key, from the first on. For 6 that is the key before it; for 7 the end of the range that
+ *            it crosses, the lower end where the key is below that, and else the upper end. Bytes count from 0, so it is
+ *            also the index of the first byte that differs, or where one of the keys ends; of equal keys it is their
+ *            length. It is 0 for the ids of a freelist, with every other number, and where nothing is refused.
  * Overlap:   The answer buffer must not overlap the other bytes. Those are only read, and may overlap each other.
  * Threads:   The calls keep no state, allocate nothing and make no system call. Any number of threads may call them, on
  *            the same bytes too, as long as nobody writes to these. If another process changes a mapped file, that is a
@@ -72,7 +78,8 @@ enum tyvarmos_lookup_field {
     TYVARMOS_LOOKUP_LENGTH = 3,    /* how many bytes it has; a bucket's has 16: its root page, then its next number */
     TYVARMOS_LOOKUP_PAGE = 4,      /* of a refusal: the page */
     TYVARMOS_LOOKUP_ELEMENT = 5,   /* of a refusal: the element, counted from 0 */
-    TYVARMOS_LOOKUP_FIELDS = 6
+    TYVARMOS_LOOKUP_COMMON = 6,    /* of TYVARMOS_ORDER: the bytes that two keys have in common */
+    TYVARMOS_LOOKUP_FIELDS = 7     /* so 56 bytes are the least */
 };
 
 /*
@@ -91,7 +98,8 @@ enum tyvarmos_judge_field {
     TYVARMOS_JUDGE_PAGES = 1,      /* how many pages the blocks of the tree and of the freelist have */
     TYVARMOS_JUDGE_PAGE = 2,       /* of a refusal: the page */
     TYVARMOS_JUDGE_ELEMENT = 3,    /* of a refusal: the element or the free id, counted from 0 */
-    TYVARMOS_JUDGE_FIELDS = 4
+    TYVARMOS_JUDGE_COMMON = 4,     /* of TYVARMOS_ORDER and TYVARMOS_RANGE: the bytes that two keys have in common */
+    TYVARMOS_JUDGE_FIELDS = 5      /* so 40 bytes are the least */
 };
 
 /* Bytes of stack that are enough for tyvarmos_judge, by a measurement on x86-64. */

@@ -46,9 +46,11 @@ static void hold_the_fields(void)
     HOLDS(judge(bytes, length, judged, sizeof judged) == TYVARMOS_DONE);
     HOLDS(judged[TYVARMOS_JUDGE_ENTRIES] == 4 && judged[TYVARMOS_JUDGE_PAGES] == 2);
     HOLDS(judged[TYVARMOS_JUDGE_PAGE] == 0 && judged[TYVARMOS_JUDGE_ELEMENT] == 0);
+    HOLDS(judged[TYVARMOS_JUDGE_COMMON] == 0 && sizeof judged == 40);
     HOLDS(lookup(bytes, length, "world", 5, found, sizeof found) == TYVARMOS_DONE);
     HOLDS(found[TYVARMOS_LOOKUP_FOUND] == 1 && found[TYVARMOS_LOOKUP_KIND] == 1);
     HOLDS(found[TYVARMOS_LOOKUP_LENGTH] == 16);
+    HOLDS(found[TYVARMOS_LOOKUP_COMMON] == 0 && sizeof found == 56);
     HOLDS(memcmp(bytes + found[TYVARMOS_LOOKUP_PLACE] - 5, "world", 5) == 0);
 }
 
@@ -73,7 +75,7 @@ static void hold_the_answer_buffer(void)
     HOLDS(memcmp(room, before, sizeof room) == 0);
     HOLDS(judge(bytes, length, room, sizeof room) == TYVARMOS_DONE);
     HOLDS(memcmp(room, before, 8 * TYVARMOS_JUDGE_FIELDS) != 0);
-    HOLDS(memcmp(room + 32, before + 32, sizeof room - 32) == 0);
+    HOLDS(memcmp(room + 40, before + 40, sizeof room - 40) == 0);
 }
 
 static void hold_any_alignment(void)
@@ -84,7 +86,7 @@ static void hold_any_alignment(void)
     int shift;
     for (shift = 1; shift < 8; shift++) {
         memcpy(moved + shift, bytes, length);
-        HOLDS(judge(moved + shift, length, room + shift, 32) == TYVARMOS_DONE);
+        HOLDS(judge(moved + shift, length, room + shift, 40) == TYVARMOS_DONE);
         memcpy(&entries, room + shift + 8 * TYVARMOS_JUDGE_ENTRIES, sizeof entries);
         HOLDS(entries == 4);
     }
@@ -100,6 +102,7 @@ static void hold_refusals(void)
     HOLDS(judge(damaged, length, judged, sizeof judged) == TYVARMOS_REACHED_TWICE);
     HOLDS(judged[TYVARMOS_JUDGE_PAGE] == 66 && judged[TYVARMOS_JUDGE_ELEMENT] == 0);
     HOLDS(judged[TYVARMOS_JUDGE_ENTRIES] == 0 && judged[TYVARMOS_JUDGE_PAGES] == 0);
+    HOLDS(judged[TYVARMOS_JUDGE_COMMON] == 0);
     memset(damaged, 0, 2048);
     HOLDS(tyvarmos_meta(damaged, length, 0, judged, sizeof judged) == TYVARMOS_GEOMETRY);
     HOLDS(tyvarmos_meta(damaged, length, 0, meta, sizeof meta) == TYVARMOS_HEADER);
@@ -119,6 +122,25 @@ static void hold_overflow_pages(void)
     damaged[66 * 1024 + 24] = 40;
     HOLDS(tyvarmos_judge(damaged, length, 1024, 146, 97, 66, judged, sizeof judged) == TYVARMOS_REACHED_TWICE);
     HOLDS(judged[TYVARMOS_JUDGE_PAGE] == 97 && judged[TYVARMOS_JUDGE_ELEMENT] == 0);
+}
+
+/* The bucket accounts: root 15, whose element 3 is account-0136, at byte 15668, and names leaf 8, which starts with it. */
+static void hold_where_keys_part(void)
+{
+    static unsigned char damaged[MOST];
+    uint64_t judged[TYVARMOS_JUDGE_FIELDS], found[TYVARMOS_LOOKUP_FIELDS];
+    memcpy(damaged, bytes, length);
+    damaged[15668 + 11] = '7';
+    HOLDS(tyvarmos_judge(damaged, length, 1024, 146, 15, 66, judged, sizeof judged) == TYVARMOS_RANGE);
+    HOLDS(judged[TYVARMOS_JUDGE_PAGE] == 8 && judged[TYVARMOS_JUDGE_ELEMENT] == 0);
+    HOLDS(judged[TYVARMOS_JUDGE_COMMON] == 11);
+    damaged[15668 + 9] = '0';
+    HOLDS(tyvarmos_judge(damaged, length, 1024, 146, 15, 66, judged, sizeof judged) == TYVARMOS_ORDER);
+    HOLDS(judged[TYVARMOS_JUDGE_PAGE] == 15 && judged[TYVARMOS_JUDGE_ELEMENT] == 3);
+    HOLDS(judged[TYVARMOS_JUDGE_COMMON] == 10);
+    HOLDS(tyvarmos_lookup(damaged, length, 1024, 146, 15, "a", 1, found, sizeof found) == TYVARMOS_ORDER);
+    HOLDS(found[TYVARMOS_LOOKUP_PAGE] == 15 && found[TYVARMOS_LOOKUP_ELEMENT] == 3);
+    HOLDS(found[TYVARMOS_LOOKUP_COMMON] == 10 && found[TYVARMOS_LOOKUP_PLACE] == 0);
 }
 
 static void *look_many_times(void *word)
@@ -157,6 +179,7 @@ int main(int count, char **words)
     hold_any_alignment();
     hold_threads();
     hold_overflow_pages();
+    hold_where_keys_part();
     hold_refusals();
     return failed;
 }

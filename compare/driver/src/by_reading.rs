@@ -10,7 +10,7 @@ pub struct Reading;
 
 type Fields = Result<Vec<u64>, Fault>;
 
-/// Which fields an answer has: so many results, then perhaps the page and element of a fault.
+/// Which fields an answer has: so many results, then perhaps the page, element and common beginning of a fault.
 struct Form {
     results: usize,
     names_fault: bool,
@@ -26,7 +26,7 @@ const fn plain(results: usize) -> Form {
 
 /// Refuses an answer buffer without room for the form, else writes the fields of the call's outcome.
 fn give(answer: &mut [u8], form: Form, call: impl FnOnce() -> Fields) -> u64 {
-    let width = form.results + if form.names_fault { 2 } else { 0 };
+    let width = form.results + if form.names_fault { 3 } else { 0 };
     if answer.len() < width * 8 {
         return 1;
     }
@@ -34,7 +34,7 @@ fn give(answer: &mut [u8], form: Form, call: impl FnOnce() -> Fields) -> u64 {
     let fault = outcome.as_ref().err().copied().unwrap_or(reading::refusal(0));
     let mut fields = outcome.unwrap_or(vec![0; form.results]);
     if form.names_fault {
-        fields.extend([fault.page, fault.element]);
+        fields.extend([fault.page, fault.element, fault.common]);
     }
     for (i, field) in fields.into_iter().enumerate() {
         layout::put_u64(answer, i * 8, field);

@@ -33,36 +33,36 @@ pub struct MetaFields {
 pub trait Subject {
     fn name(&self) -> &'static str;
 
-    /// Fields: found, kind, place, length, page, element.
+    /// Fields: found, kind, place, length, page, element, common.
     fn lookup(&self, image: &[u8], p: u64, n: u64, root: u64, key: &[u8], answer: &mut [u8]) -> u64;
-    /// Fields: entries, pages, page, element.
+    /// Fields: entries, pages, page, element, common.
     fn judge(&self, image: &[u8], p: u64, n: u64, root: u64, freelist: u64, answer: &mut [u8]) -> u64;
 
     /// Fields: the page taken, pagesize, root_page, next_int, num_pages, freelist_page, tx_id.
     fn newest_meta(&self, image: &[u8], p: u64, answer: &mut [u8]) -> u64;
 
-    /// Fields: index, found, page, element.
+    /// Fields: index, found, page, element, common.
     fn index(&self, block: &[u8], p: u64, key: &[u8], answer: &mut [u8]) -> u64;
-    /// Fields: page number, page, element.
+    /// Fields: page number, page, element, common.
     fn index_page(&self, block: &[u8], p: u64, index: u64, answer: &mut [u8]) -> u64;
-    /// Fields: held; kind, key place, key length, value place, value length; page, element.
+    /// Fields: held; kind, key place, key length, value place, value length; page, element, common.
     fn entry(&self, block: &[u8], p: u64, index: u64, answer: &mut [u8]) -> u64;
-    /// Fields: size, pages needed, merging wanted, page, element.
+    /// Fields: size, pages needed, merging wanted, page, element, common.
     fn size(&self, block: &[u8], p: u64, answer: &mut [u8]) -> u64;
 
-    /// Fields: bytes written, page, element.
+    /// Fields: bytes written, page, element, common.
     fn new_leaf(&self, p: u64, id: u64, out: &mut [u8], answer: &mut [u8]) -> u64;
-    /// Fields: bytes written, page, element.
+    /// Fields: bytes written, page, element, common.
     fn new_branch(&self, p: u64, id: u64, key: &[u8], child: u64, out: &mut [u8], answer: &mut [u8]) -> u64;
-    /// Fields: bytes written, page, element.
+    /// Fields: bytes written, page, element, common.
     fn insert(&self, block: &[u8], p: u64, entry: Leaf, out: &mut [u8], answer: &mut [u8]) -> u64;
-    /// Fields: bytes written; kind, key place, key length, value place, value length of what was removed; page, element.
+    /// Fields: bytes written; kind, key place, key length, value place, value length of what was removed; page, element, common.
     fn delete(&self, block: &[u8], p: u64, index: u64, out: &mut [u8], answer: &mut [u8]) -> u64;
-    /// Fields: bytes written, page, element.
+    /// Fields: bytes written, page, element, common.
     fn insert_branch(&self, block: &[u8], p: u64, branch: Branch, out: &mut [u8], answer: &mut [u8]) -> u64;
-    /// Fields: cuts made, page, element.
+    /// Fields: cuts made, page, element, common.
     fn split(&self, block: &[u8], p: u64, cuts: &mut [u64], answer: &mut [u8]) -> u64;
-    /// Fields: bytes written, pieces, page, element.
+    /// Fields: bytes written, pieces, page, element, common.
     fn split_write(&self, block: &[u8], p: u64, n: u64, ids: &[u64], out: &mut [u8], answer: &mut [u8]) -> u64;
 
     fn free_new(&self, table: &mut [u64], answer: &mut [u8]) -> u64;

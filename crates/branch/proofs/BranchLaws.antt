@@ -147,12 +147,12 @@ module _ (b : List ℕ) (s : SoundBlock false true b) (e : Entry) where
 -- ---- what comes of each
 module _ (P : ℕ) (out b : List ℕ) (e : Entry) where
   pub replace-absent : (original : List ℕ) → present original (entriesOf false b) ≡ false
-      → replaceBranch P out original e (entriesOf false b) ≡ refused 14 0
+      → replaceBranch P out original e (entriesOf false b) ≡ refused 14 0 0
   unfolding replaceBranch
   replace-absent original h = rw h
 
   module _ (original : List ℕ) (s : SoundBlock false true b) (i : ℕ) (l : i < countOf b) (same : keyOf false b i ≡ original) where
-    pub replace-breaks : (notAbove b i (e .key) || notBelow b i (e .key)) ≡ true → replaceBranch P out original e (entriesOf false b) ≡ refused 14 0
+    pub replace-breaks : (notAbove b i (e .key) || notBelow b i (e .key)) ≡ true → replaceBranch P out original e (entriesOf false b) ≡ refused 14 0 0
     unfolding replaceBranch
     replace-breaks h = rw (present-at b original i l same, replaced-at b original e s i l same, order-kept b s e i l, h)
 
@@ -161,7 +161,7 @@ module _ (P : ℕ) (out b : List ℕ) (e : Entry) where
     unfolding replaceBranch
     replace-goes h k = rw (present-at b original i l same, replaced-at b original e s i l same, order-kept b s e i l, h, k)
 
-  pub add-present : present (e .key) (entriesOf false b) ≡ true → addBranch P out e (entriesOf false b) ≡ refused 14 0
+  pub add-present : present (e .key) (entriesOf false b) ≡ true → addBranch P out e (entriesOf false b) ≡ refused 14 0 0
   unfolding addBranch
   add-present h = rw h
 

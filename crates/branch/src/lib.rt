@@ -87,14 +87,14 @@ fn replace_branch(
     let n = count(b);
     let place = find(b, false, n, original);
     if !place.found {
-        return Edited::Refused(14, 0);
+        return Edited::Refused(14, 0, 0);
     }
     let i = place.at;
     if not_above(b, i, key) {
-        return Edited::Refused(14, 0);
+        return Edited::Refused(14, 0, 0);
     }
     if not_below(b, n, i, key) {
-        return Edited::Refused(14, 0);
+        return Edited::Refused(14, 0, 0);
     }
     replace(b, p, i, key, child, out)
 }
@@ -107,7 +107,7 @@ fn add_branch(b: &[u8], p: usize, key: &[u8], child: u64, out: &mut [u8]) -> Edi
 {
     let place = find(b, false, count(b), key);
     if place.found {
-        return Edited::Refused(14, 0);
+        return Edited::Refused(14, 0, 0);
     }
     put(b, false, p, child, key, &key[0..0], out)
 }
@@ -126,13 +126,13 @@ pub fn insert_branch(
         (insertBranchOf p (now (b .entry)) has (now (original .entry)) (now (key .entry)) child (now (out .entry))) r (now (out .exit)) ⌝ }
 {
     match lent_check(b, p) {
-        Verdict::Breach(number, i) => Edited::Refused(number, i),
+        Verdict::Breach(number, i, common) => Edited::Refused(number, i, common),
         Verdict::Sound => {
             if is_leaf(b) {
-                return Edited::Refused(11, 0);
+                return Edited::Refused(11, 0, 0);
             }
             if child < 2 {
-                return Edited::Refused(11, 0);
+                return Edited::Refused(11, 0, 0);
             }
             if has {
                 return replace_branch(b, p, original, key, child, out);

@@ -23,7 +23,7 @@ pub record Check : Type 0 where
 abbrev check : List ℕ → List ℕ → Check
 check asked expected = record { asked = asked; expected = expected }
 
--- ---- search: number, index, found, page, element
+-- ---- search: number, index, found, page, element, common
 -- a leaf with the keys b and d
 abbrev bd : List ℕ
 bd = pack true 2 (entryWith 0 (98 ∷ []) [] ∷ entryWith 0 (100 ∷ []) [] ∷ []) 1024
@@ -65,10 +65,10 @@ noneFree = newTable (replicate 33792 0)
 -- the starred checks, in 01's order; a node's block and an allocation go by one definition of the pages needed
 unfoldable pub checks : List Check
 checks =
-    check (index 97) (0 ∷ 0 ∷ 0 ∷ 0 ∷ 0 ∷ [])
-    ∷ check (index 98) (0 ∷ 0 ∷ 1 ∷ 0 ∷ 0 ∷ [])
-    ∷ check (index 99) (0 ∷ 0 ∷ 0 ∷ 0 ∷ 0 ∷ [])
-    ∷ check (index 101) (0 ∷ 1 ∷ 0 ∷ 0 ∷ 0 ∷ [])
+    check (index 97) (0 ∷ 0 ∷ 0 ∷ 0 ∷ 0 ∷ 0 ∷ [])
+    ∷ check (index 98) (0 ∷ 0 ∷ 1 ∷ 0 ∷ 0 ∷ 0 ∷ [])
+    ∷ check (index 99) (0 ∷ 0 ∷ 0 ∷ 0 ∷ 0 ∷ 0 ∷ [])
+    ∷ check (index 101) (0 ∷ 1 ∷ 0 ∷ 0 ∷ 0 ∷ 0 ∷ [])
     ∷ check (pagesNeeded 1024 1024 ∷ pagesNeeded 1025 1024 ∷ []) (1 ∷ 2 ∷ [])
     ∷ check (pieces (replicate 12 (sized 4 96))) (4 ∷ 3 ∷ 3 ∷ 2 ∷ [])
     ∷ check (pieces (replicate 8 (sized 4 96))) (4 ∷ 4 ∷ [])

@@ -29,10 +29,10 @@ lent-size P b e = and-both _ _ (not-false _ (lent-iff P b .0 e .0)) .0
 
 -- which of the three answers
 module _ (size : ℕ) (made : List ℕ) (room : ℕ) where
-  pub parted-large : nodeLimit < size → Refused 15 0 ≡ partedIf size made room
+  pub parted-large : nodeLimit < size → Refused 15 0 0 ≡ partedIf size made room
   parted-large h = rw (lt-ltb nodeLimit size h)
 
-  pub parted-short : size ≤ nodeLimit → room < length made → Refused 10 0 ≡ partedIf size made room
+  pub parted-short : size ≤ nodeLimit → room < length made → Refused 10 0 0 ≡ partedIf size made room
   parted-short h k = rw (le-ltb nodeLimit size h, lt-ltb room (length made) k)
 
   pub parted-made : size ≤ nodeLimit → length made ≤ room → Cuts (length made) ≡ partedIf size made room

@@ -19,7 +19,7 @@ blockCuts P b = cutsOf (isLeaf b) P (entriesOf (isLeaf b) b)
 
 -- 15 where the node is too large, then 10 where the lent list is too short for the cuts, else how many cuts there are
 abbrev pub partedIf : ℕ → List ℕ → ℕ → Parted
-partedIf size made room = cond (ltb nodeLimit size) (Refused 15 0) (cond (ltb room (length made)) (Refused 10 0) (Cuts (length made)))
+partedIf size made room = cond (ltb nodeLimit size) (Refused 15 0 0) (cond (ltb room (length made)) (Refused 10 0 0) (Cuts (length made)))
 
 -- `split` of a lent block, with room for so many cuts
 unfoldable pub splitOf : ℕ → List ℕ → ℕ → Parted
@@ -28,4 +28,4 @@ splitOf P b room = afterCheck (lentCheckOf P b) Refused (partedIf (nodeSize (isL
 -- the lent list afterwards: the cuts, then its old rest; a refusal changes nothing
 abbrev pub listLeft : Parted → List ℕ → List ℕ → List ℕ
 listLeft (Cuts n) made old = made ++ drop n old
-listLeft (Refused number element) made old = old
+listLeft (Refused number element common) made old = old

@@ -24,10 +24,10 @@ use size::node_size;
 // A cut is made only after so many entries.
 const MIN_KEYS_PER_NODE: usize = 2;
 
-// What `split` answers: how many cuts it wrote, or a refusal with 01's number and the element.
+// What `split` answers: how many cuts it wrote, or a refusal with 01's number, the element and the length of a common beginning.
 pub enum Parted {
     Cuts(usize),
-    Refused(u64, usize),
+    Refused(u64, usize, usize),
 }
 
 // The threshold of a page size: half of it, worked out in f32 as the crate does.
@@ -147,13 +147,13 @@ fn split_sound(b: &[u8], leaf: bool, p: usize, cuts: &mut [u64]) -> Parted
 {
     let size = node_size(b, leaf);
     if NODE_LIMIT < size {
-        return Parted::Refused(15, 0);
+        return Parted::Refused(15, 0, 0);
     }
     let t = half(p) as usize;
     let end = run_end(b, leaf, p, size);
     let made = count_cuts(b, leaf, t, end);
     if cuts.len() < made {
-        return Parted::Refused(10, 0);
+        return Parted::Refused(10, 0, 0);
     }
     write_cuts(b, leaf, t, end, cuts);
     Parted::Cuts(made)
@@ -165,7 +165,7 @@ pub fn split(b: &[u8], p: usize, cuts: &mut [u64]) -> Parted
         × (now (cuts .exit) ≡ listLeft r (blockCuts p (now (b .entry))) (now (cuts .entry))) ⌝ }
 {
     match lent_check(b, p) {
-        Verdict::Breach(number, i) => Parted::Refused(number, i),
+        Verdict::Breach(number, i, common) => Parted::Refused(number, i, common),
         Verdict::Sound => split_sound(b, is_leaf(b), p, cuts),
     }
 }

@@ -38,10 +38,14 @@ fn pair(name: &[u8], a: u64, b: u64) {
     end_line();
 }
 
-// Prints a call's name, that it refused, the number and the element.
-fn refused(name: &[u8], n: u64, element: usize) {
+// Prints a call's name, that it refused, the number, the element and the common beginning.
+fn refused(name: &[u8], n: u64, element: usize, common: usize) {
     io::write_all(1, name);
-    pair(b" refused", n, element as u64);
+    io::write_all(1, b" refused");
+    number(n);
+    number(element as u64);
+    number(common as u64);
+    end_line();
 }
 
 // Prints the kind of a leaf's entry and where its key, its value and their end stand.
@@ -63,7 +67,7 @@ pub fn indexed(r: Indexed) {
                 pair(b"index", place.at as u64, 0);
             }
         }
-        Indexed::Refused(n, i) => refused(b"index", n, i),
+        Indexed::Refused(n, i, common) => refused(b"index", n, i, common),
     }
 }
 
@@ -71,7 +75,7 @@ pub fn indexed(r: Indexed) {
 pub fn child(r: Child) {
     match r {
         Child::Page(page) => pair(b"index_page", page as u64, 0),
-        Child::Refused(n, i) => refused(b"index_page", n, i),
+        Child::Refused(n, i, common) => refused(b"index_page", n, i, common),
     }
 }
 
@@ -85,7 +89,7 @@ pub fn held(r: Held) {
         Held::Nothing => {
             io::write_all(1, b"entry nothing\n");
         }
-        Held::Refused(n, i) => refused(b"entry", n, i),
+        Held::Refused(n, i, common) => refused(b"entry", n, i, common),
     }
 }
 
@@ -93,7 +97,7 @@ pub fn held(r: Held) {
 pub fn measured(r: Measure) {
     match r {
         Measure::Bytes(bytes, pages) => pair(b"size", bytes as u64, pages as u64),
-        Measure::Refused(n, i) => refused(b"size", n, i),
+        Measure::Refused(n, i, common) => refused(b"size", n, i, common),
     }
 }
 
@@ -107,7 +111,7 @@ pub fn merging(r: Merging) {
                 io::write_all(1, b"needs_merging no\n");
             }
         }
-        Merging::Refused(n, i) => refused(b"needs_merging", n, i),
+        Merging::Refused(n, i, common) => refused(b"needs_merging", n, i, common),
     }
 }
 
@@ -119,7 +123,7 @@ pub fn edited(name: &[u8], r: Edited) {
             number(bytes as u64);
             end_line();
         }
-        Edited::Refused(n, i) => refused(name, n, i),
+        Edited::Refused(n, i, common) => refused(name, n, i, common),
     }
 }
 
@@ -131,7 +135,7 @@ pub fn deleted(r: Deleted) {
             number(bytes as u64);
             leaf(l);
         }
-        Deleted::Refused(n, i) => refused(b"delete", n, i),
+        Deleted::Refused(n, i, common) => refused(b"delete", n, i, common),
     }
 }
 
@@ -143,7 +147,7 @@ pub fn parted(r: Parted) {
             number(cuts as u64);
             end_line();
         }
-        Parted::Refused(n, i) => refused(b"split", n, i),
+        Parted::Refused(n, i, common) => refused(b"split", n, i, common),
     }
 }
 
@@ -151,7 +155,7 @@ pub fn parted(r: Parted) {
 pub fn written(r: Written) {
     match r {
         Written::Pieces(bytes, pieces) => pair(b"split_write", bytes as u64, pieces as u64),
-        Written::Refused(n, i) => refused(b"split_write", n, i),
+        Written::Refused(n, i, common) => refused(b"split_write", n, i, common),
     }
 }
 

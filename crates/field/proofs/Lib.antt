@@ -2,6 +2,7 @@
 pub mod FieldLaws
 pub mod RunLaws
 pub mod OrderLaws
+pub mod CommonLaws
 pub mod WordLaws
 pub mod BitLaws
 pub mod MarkLaws

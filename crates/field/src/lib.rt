@@ -6,3 +6,4 @@ pub mod run;
 pub mod sizes;
 
 pub use order::Order;
+pub use order::Parting;

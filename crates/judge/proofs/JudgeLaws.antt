@@ -13,7 +13,7 @@ use Rattle.judge.specs.declared.Judged.the-variants.{Refused}
 use Rattle.judge.specs.Judge.{afterTree, judgeOf}
 
 module _ (image : List ℕ) (P N root f : ℕ) where
-  pub judge-geometry : geometryBad image P N ≡ true → judgeOf image P N root f ≡ Refused (faultAt 1 0 0)
+  pub judge-geometry : geometryBad image P N ≡ true → judgeOf image P N root f ≡ Refused (faultAt 1 0 0 0)
   unfolding judgeOf
   judge-geometry e = rw e
 

@@ -1,7 +1,7 @@
 -- Rule 8: a key against the ends of a range, and a block's keys, which rise.
 -- Assumes nothing.
-use mathlib.Core.Path.{_≡_, ap}
-use mathlib.Core.Bool.{Bool, true, false, not}
+use mathlib.Core.Path.{_≡_, refl, sym, ap, _∙_}
+use mathlib.Core.Bool.{Bool, true, false, not, cond}
 use mathlib.Core.List.{List}
 use mathlib.Core.Logic.{⊎-elim}
 use mathlib.Core.Option.{Option}
@@ -9,30 +9,39 @@ use Prim.Native.Nat.{ℕ, _-_, _≤_, _<_}
 use native.Mathlib.Nat.{eq-or-lt-of-le}
 use native.Mathlib.Omega.{arith}
 use borrow.Author.Tests.{not-false}
-use Rattle.field.specs.declared.order.Order.{Order}
-use Rattle.field.specs.Order.{orderOf, isLower}
+use Rattle.field.specs.declared.order.Parting.{Parting}
+use Rattle.field.specs.Order.{partingOf, isLower}
 use Rattle.page.specs.declared.rules.Verdict.the-variants.{Sound}
 use Rattle.page.specs.Layout.{countOf, keyOf}
 use Rattle.page.specs.PageRules.{firstBad, SoundBlock}
 use Rattle.page.proofs.RuleLaws.{none-bad}
 use Rattle.page.proofs.EntryLaws.{rising-far}
-use Rattle.walk.specs.Tree.{Key, lower, under, inRange}
+use Rattle.walk.specs.Tree.{Key, lower, under, inRange, commonCrossed}
 use Rattle.walk.proofs.KeyLaws.{order-lower, lower-one-way, lower-not, weak-chain, under-chain, range-low, range-high, range-both}
-use Rattle.judge.specs.Walk.{upperOf, keyOut}
+use Rattle.judge.specs.declared.range.Ranged.the-variants.{In, Out}
+use Rattle.judge.specs.Walk.{rangedOf, keyOut, commonOut}
 
 -- ---- one key
-pub above-is : (k high : Key) (bounded : Bool) (o : Order) → bounded ≡ true → orderOf k high ≡ o → not (under k (upperOf bounded high)) ≡ not (isLower o)
+-- against an end, by what a comparison and its test answered
+pub lower-told : (k end : Key) (p : Parting) (t : Bool) → p ≡ partingOf k end → t ≡ isLower (p .order) → lower k end ≡ t
 unfolding lower
-above-is k high bounded o e f = rw (e, f)
+lower-told k end p t e f = sym (f ∙ ap (λ (q : Parting). isLower (q .order)) e)
 
-module _ (low : Key) (high : Option Key) (k : Key) (o : Order) (e : orderOf k low ≡ o) where
-  pub out-low : isLower o ≡ true → not (inRange low high k) ≡ true
-  unfolding lower
-  out-low h = rw (e, h)
+-- a key that was found in its range, or outside it
+module _ (low : Key) (high : Option Key) (k : Key) where
+  pub is-in : rangedOf low high k ≡ In → not (inRange low high k) ≡ false
+  is-in = go (inRange low high k)
+    where
+      go : (t : Bool) → cond t In (Out (commonCrossed low high k)) ≡ In → not t ≡ false
+      go true e = refl
+      go false e = absurd (let z : _≡_ {A = ℕ} 0 1 = cc in omega arith)
 
-  pub out-high : isLower o ≡ false → not (inRange low high k) ≡ not (under k high)
-  unfolding lower
-  out-high h = rw (e, h)
+  pub is-out : (m : ℕ) → rangedOf low high k ≡ Out m → (not (inRange low high k) ≡ true) × (m ≡ commonCrossed low high k)
+  is-out m = go (inRange low high k)
+    where
+      go : (t : Bool) → cond t In (Out (commonCrossed low high k)) ≡ Out m → (not t ≡ true) × (m ≡ commonCrossed low high k)
+      go true e = absurd (let z : _≡_ {A = ℕ} 0 1 = cc in omega arith)
+      go false e = (refl, cc)
 
 -- ---- the keys of a sound block
 module _ (isLeaf emptyOk : Bool) (b : List ℕ) (sound : SoundBlock isLeaf emptyOk b) where
@@ -44,11 +53,11 @@ module _ (isLeaf emptyOk : Bool) (b : List ℕ) (sound : SoundBlock isLeaf empty
       (eq-or-lt-of-le l)
 
   -- where the first and the last are in range, all are
-  pub ends-in-range : (low : Key) (high : Option Key) → 0 < countOf b
+  pub ends-against-range : (low : Key) (high : Option Key) → 0 < countOf b
       → keyOut isLeaf b low high 0 ≡ false → keyOut isLeaf b low high (countOf b - 1) ≡ false
-      → firstBad (keyOut isLeaf b low high) 7 (countOf b) 0 ≡ Sound
-  ends-in-range low high filled first last =
-      none-bad (keyOut isLeaf b low high) 7 (countOf b) 0 (λ i l m. ap not (inside i (omega arith)))
+      → firstBad (keyOut isLeaf b low high) (commonOut isLeaf b low high) 7 (countOf b) 0 ≡ Sound
+  ends-against-range low high filled first last =
+      none-bad (keyOut isLeaf b low high) (commonOut isLeaf b low high) 7 (countOf b) 0 (λ i l m. ap not (inside i (omega arith)))
     where
       up : (i : ℕ) → i < countOf b → under (keyOf isLeaf b i) high ≡ true
       up i m =

@@ -1,4 +1,4 @@
--- 01, "A sound page, a sound image", as 02's order 3 amends it: what the judge answers. The tree first, then the freelist page.
+-- 01, "A sound page, a sound image", as 02's orders 2 and 3 amend it: what the judge answers. The tree first, then the freelist page.
 -- Assumes nothing.
 use mathlib.Core.Path.{_≡_}
 use mathlib.Core.Bool.{Bool, true, not, cond, _||_}
@@ -11,7 +11,7 @@ use Rattle.field.specs.Field.{field}
 use Rattle.page.specs.declared.rules.Verdict.{Verdict}
 use Rattle.page.specs.declared.rules.Verdict.the-variants as verdict
 use Rattle.page.specs.Layout.{idOf, typeOf, countOf, overflowOf}
-use Rattle.page.specs.PageRules.{andThen, breachIf, firstBad, blockOf}
+use Rattle.page.specs.PageRules.{andThen, breachIf, noCommon, firstBad, blockOf}
 use Rattle.walk.specs.Tree.{pass, fault, walk, inside, memb, firstIn, Verdict as Walk}
 use Rattle.judge.specs.declared.Judged.{Judged}
 use Rattle.judge.specs.declared.Judged.the-variants.{Sound, Refused}
@@ -41,39 +41,39 @@ idNotAbove b i = not (ltb (idAt b (i - 1)) (idAt b i))
 abbrev pub idMarked : List ℕ → List ℕ → ℕ → Bool
 idMarked marked b i = memb (idAt b i) marked
 
--- rule 5 with ids of 8 bytes, count 0 allowed; then the ids, each rule over all before the next
+-- rule 5 with ids of 8 bytes, count 0 allowed; then the ids, each rule over all before the next; ids have no common beginning
 unfoldable pub idsOf : ℕ → List ℕ → List ℕ → Verdict
 idsOf N marked b =
     breachIf (ltb (length b) (32 + 8 * countOf b)) 4
-    (andThen (firstBad (idOutside N b) 5 (countOf b) 0)
-    (andThen (firstBad (idNotAbove b) 6 (countOf b - 1) 1) (firstBad (idMarked marked b) 8 (countOf b) 0)))
+    (andThen (firstBad (idOutside N b) noCommon 5 (countOf b) 0)
+    (andThen (firstBad (idNotAbove b) noCommon 6 (countOf b - 1) 1) (firstBad (idMarked marked b) noCommon 8 (countOf b) 0)))
 
 abbrev pub judgedOf : Verdict → ℕ → ℕ → ℕ → Judged
 judgedOf verdict.Sound f entries pages = Sound entries pages
-judgedOf (verdict.Breach number element) f entries pages = Refused (faultAt number f element)
+judgedOf (verdict.Breach number element common) f entries pages = Refused (faultAt number f element common)
 
 -- rule 3, of a block's pages: the lowest that is marked already is named
 abbrev pub refusedIfTwice : Option ℕ → Judged → Judged
 refusedIfTwice none answer = answer
-refusedIfTwice (some page) answer = Refused (faultAt 8 page 0)
+refusedIfTwice (some page) answer = Refused (faultAt 8 page 0 0)
 
 -- after a tree of so many leaf entries: rules 2 and 4, then 3 over all pages of the block, which are marked before the ids are tried
 -- passing: the number of leaf entries, and of pages reached, the freelist block's included
 unfoldable pub freelistOf : List ℕ → ℕ → ℕ → ℕ → ℕ → List ℕ → Judged
 freelistOf image P N f entries vs =
-    cond (not (inside N f)) (Refused (faultAt 2 f 0))
-    (cond (freeHeaderBad N f (drop (f * P) image)) (Refused (faultAt 3 f 0))
+    cond (not (inside N f)) (Refused (faultAt 2 f 0 0))
+    (cond (freeHeaderBad N f (drop (f * P) image)) (Refused (faultAt 3 f 0 0))
     (refusedIfTwice (firstIn (pagesAt image P f) vs)
     (judgedOf (idsOf N (pagesAt image P f ++ vs) (blockOf image P f)) f entries (length (pagesAt image P f ++ vs)))))
 
 -- ---- the whole image
 abbrev pub afterTree : List ℕ → ℕ → ℕ → ℕ → Walk → Judged
 afterTree image P N f (pass n vs) = freelistOf image P N f n vs
-afterTree image P N f (fault number page element) = Refused (faultAt number page element)
+afterTree image P N f (fault number page element common) = Refused (faultAt number page element common)
 
 unfoldable pub judgeOf : List ℕ → ℕ → ℕ → ℕ → ℕ → Judged
 judgeOf image P N root f =
-    cond (geometryBad image P N) (Refused (faultAt 1 0 0))
+    cond (geometryBad image P N) (Refused (faultAt 1 0 0 0))
     (afterTree image P N f (walk N (pagesOf image P N) (viewOf image P N) 16 true root [] none []))
 
 -- the judge passes an image

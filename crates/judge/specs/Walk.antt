@@ -9,8 +9,10 @@ use lib.ListN.{length, drop}
 use Rattle.field.specs.Marks.{isMarked, count}
 use Rattle.page.specs.Layout.{keyOf, countOf, overflowOf}
 use Rattle.page.specs.PageRules.{blockOf, SoundBlock}
-use Rattle.walk.specs.Tree.{Key, View, bad, branch, leaf, keys, inRange, memb, inside, firstIn, firstOut, pass, fault, walkAll, walk, Verdict as Walk}
+use Rattle.walk.specs.Tree.{Key, View, bad, branch, leaf, keys, under, inRange, commonWith, commonCrossed, memb, inside, firstIn, Stray, firstOut, pass, fault, walkAll, walk, Verdict as Walk}
 use Rattle.view.specs.declared.Value.{Value}
+use Rattle.judge.specs.declared.range.Ranged.{Ranged}
+use Rattle.judge.specs.declared.range.Ranged.the-variants as ranged
 use Rattle.judge.specs.declared.range.Page.{Page}
 use Rattle.judge.specs.declared.range.Page.the-variants.{Branch, Leaf, Breach}
 use Rattle.judge.specs.declared.Walked.{Walked}
@@ -23,35 +25,46 @@ abbrev pub upperOf : Bool → Key → Option Key
 upperOf true high = some high
 upperOf false high = none
 
--- rule 8: a key outside its range
+-- rule 8: how a key stands to the upper end of its range, and to its range; outside, with the length of the common beginning of it and the end that it crosses
+abbrev pub againstUpper : Option Key → Key → Ranged
+againstUpper high k = cond (under k high) ranged.In (ranged.Out (commonWith k high))
+
+abbrev pub rangedOf : Key → Option Key → Key → Ranged
+rangedOf low high k = cond (inRange low high k) ranged.In (ranged.Out (commonCrossed low high k))
+
+-- a key of a block is out of its range
 abbrev pub keyOut : Bool → List ℕ → Key → Option Key → ℕ → Bool
 keyOut isLeaf b low high i = not (inRange low high (keyOf isLeaf b i))
 
+-- 02, order 2: the length of its common beginning with the end that it crosses
+abbrev pub commonOut : Bool → List ℕ → Key → Option Key → ℕ → ℕ
+commonOut isLeaf b low high i = commonCrossed low high (keyOf isLeaf b i)
+
 -- rule 8, of page q, which keeps the rules before it
-abbrev pub breachIfOut : Option ℕ → ℕ → Page → Page
+abbrev pub breachIfOut : Option Stray → ℕ → Page → Page
 breachIfOut none q v = v
-breachIfOut (some i) q v = Breach 7 q i
+breachIfOut (some x) q v = Breach 7 q (x .index) (x .common)
 
 -- page q's own verdict: the number of its children or entries
 unfoldable pub judgePageOf : View Value → ℕ → Key → Option Key → Page
-judgePageOf (bad number element) q low high = Breach number q element
+judgePageOf (bad number element common) q low high = Breach number q element common
 judgePageOf (branch cs) q low high = breachIfOut (firstOut low high (keys cs) 0) q (Branch (length cs))
 judgePageOf (leaf es) q low high = breachIfOut (firstOut low high (keys es) 0) q (Leaf (length es))
 
 -- rule 3, of a block's pages: the lowest that was visited before is named
 abbrev pub breachIfTwice : Option ℕ → Page → Page
 breachIfTwice none v = v
-breachIfTwice (some page) v = Breach 8 page 0
+breachIfTwice (some page) v = Breach 8 page 0 0
 
 -- the verdict on a page that the walk meets with `left` levels to spend, after the pages vs: rules 1, 2 and 3 come before its own;
 -- a page that rule 4 refuses has no block
 unfoldable pub metOf : ℕ → (ℕ → List ℕ) → (ℕ → Bool → View Value) → ℕ → Bool → ℕ → Key → Option Key → List ℕ → Page
-metOf N block view zero top q low high vs = Breach 9 q 0
+metOf N block view zero top q low high vs = Breach 9 q 0 0
 metOf N block view (suc d) top q low high vs =
-    cond (inside N q) (breachIfTwice (firstIn (block q) vs) (judgePageOf (view q top) q low high)) (Breach 2 q 0)
+    cond (inside N q) (breachIfTwice (firstIn (block q) vs) (judgePageOf (view q top) q low high)) (Breach 2 q 0 0)
 
 abbrev pub NoBreach : Page → Type 0
-NoBreach (Breach number page element) = ⊥
+NoBreach (Breach number page element common) = ⊥
 NoBreach (Branch n) = Unit
 NoBreach (Leaf n) = Unit
 
@@ -73,4 +86,4 @@ pub record Marks (m vs : List ℕ) : Type 0 where
 -- the answer is the definition's
 abbrev pub Says : Walked → Walk → Type 0
 Says r (pass n vs) = (r .outcome ≡ Passed n) × Marks (r .marks) vs
-Says r (fault number page element) = r .outcome ≡ Broken (faultAt number page element)
+Says r (fault number page element common) = r .outcome ≡ Broken (faultAt number page element common)

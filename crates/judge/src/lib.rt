@@ -54,13 +54,14 @@ pub struct Walked {
 }
 
 // A walk that ended with a breach.
-fn broken(marks: [u64; 512], number: u64, page: usize, element: usize) -> Walked
-    ensures { λ r. ⌜ (r .outcome ≡ Outcome.Broken (faultAt number page element)) × (r .marks ≡ marks) ⌝ }
+fn broken(marks: [u64; 512], number: u64, page: usize, element: usize, common: usize) -> Walked
+    ensures { λ r. ⌜ (r .outcome ≡ Outcome.Broken (faultAt number page element common)) × (r .marks ≡ marks) ⌝ }
 {
     let f = Fault {
         number,
         page,
         element,
+        common,
     };
     Walked {
         marks,
@@ -121,19 +122,19 @@ fn meet(
     ensures { λ r. ⌜ (length (now (marks .exit)) ≡ 512) × (NoBreach r → countMarked (now (marks .entry)) < countMarked (now (marks .exit))) ⌝ }
 {
     if left == 0 {
-        return Page::Breach(9, q, 0);
+        return Page::Breach(9, q, 0, 0);
     }
     if !inside(n, q) {
-        return Page::Breach(2, q, 0);
+        return Page::Breach(2, q, 0, 0);
     }
     let s = from_page(image, p, n, q);
     if header_bad(s, n, q) {
-        return Page::Breach(3, q, 0);
+        return Page::Breach(3, q, 0, 0);
     }
     let end = q + overflow(s) + 1;
     let twice = take_pages(marks, q, end);
     if twice < end {
-        return Page::Breach(8, twice, 0);
+        return Page::Breach(8, twice, 0, 0);
     }
     judge_page(image, p, n, q, top, low, high, bounded)
 }
@@ -164,8 +165,8 @@ fn walk<'a>(
         let ends = has_upper(i, c, bounded);
         let low = key(b, false, i);
         match meet(image, p, n, left, false, k, low, end, ends, &mut seen) {
-            Page::Breach(number, page, j) => {
-                return broken(seen, number, page, j);
+            Page::Breach(number, page, j, common) => {
+                return broken(seen, number, page, j, common);
             }
             Page::Leaf(m) => {
                 entries += m;
@@ -177,7 +178,7 @@ fn walk<'a>(
                 let outcome = w.outcome;
                 match outcome {
                     Outcome::Broken(f) => {
-                        return broken(next, f.number, f.page, f.element);
+                        return broken(next, f.number, f.page, f.element, f.common);
                     }
                     Outcome::Passed(all) => {
                         entries += all;
@@ -219,12 +220,12 @@ pub fn judge(image: &[u8], p: usize, n: usize, root: usize, f: usize) -> Judged
     ensures { λ r. ⌜ r ≡ judgeOf (now (image .entry)) p n root f ⌝ }
 {
     if geometry_bad(image, p, n) {
-        return refused(1, 0, 0);
+        return refused(1, 0, 0, 0);
     }
     let low = &image[0..0];
     let mut marks = no_marks();
     match meet(image, p, n, LEVELS, true, root, low, low, false, &mut marks) {
-        Page::Breach(number, page, i) => refused(number, page, i),
+        Page::Breach(number, page, i, common) => refused(number, page, i, common),
         Page::Leaf(entries) => after_tree(image, p, n, f, entries, marks),
         Page::Branch(c) => judge_branch(image, p, n, root, c, f, marks),
     }

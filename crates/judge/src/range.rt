@@ -1,16 +1,15 @@
 // Rule 8, and a page's own verdict in the judge's walk.
 ghost use mathlib.Core.Path.{_≡_};
-ghost use mathlib.Core.Bool.{true, false, not};
+ghost use mathlib.Core.Bool.{true, false};
 ghost use Prim.Native.Nat.{_*_, _≤_, _<_};
 ghost use lib.ListN.{length, drop};
 ghost use Rattle.page.specs.Layout.{countOf};
 ghost use Rattle.page.specs.PageRules.{andThen, firstBad, headerBad, checkOf, SoundBlock};
-ghost use Rattle.walk.specs.Tree.{under, inRange};
 ghost use Rattle.view.specs.Geometry.{SoundSizes};
 ghost use Rattle.view.specs.View.{viewOf};
-ghost use Rattle.judge.specs.Walk.{upperOf, keyOut, judgePageOf};
-use field::Order;
+ghost use Rattle.judge.specs.Walk.{upperOf, againstUpper, rangedOf, keyOut, commonOut, judgePageOf};
 use field::order::compare;
+use field::order::is_lower;
 use page::Verdict;
 use page::layout::count;
 use page::layout::is_leaf;
@@ -18,50 +17,62 @@ use page::layout::key;
 use page::rules::check;
 use view::image::block;
 
-// The verdict on a page: the number of a branch's children or of a leaf's entries, or a breach with the page and element that it names.
+// The verdict on a page: the number of a branch's children or of a leaf's entries, or a breach with the page and element that it names and the length of a common beginning.
 pub enum Page {
     Branch(usize),
     Leaf(usize),
-    Breach(u64, usize, usize),
+    Breach(u64, usize, usize, usize),
 }
 
-// Whether a key is not below the upper end of a range, where there is one.
-fn above(k: &[u8], high: &[u8], bounded: bool) -> bool
-    ensures { λ r. ⌜ r ≡ not (under (now (k .entry)) (upperOf bounded (now (high .entry)))) ⌝ }
-{
-    if bounded {
-        match compare(k, high) {
-            Order::Lower => false,
-            Order::Equal => true,
-            Order::Higher => true,
-        }
-    } else {
-        false
-    }
+// How a key stands to its range: in it, or out of it, with the length of the common beginning of it and the end that it crosses.
+pub enum Ranged {
+    In,
+    Out(usize),
 }
 
-// Whether a key is out of its range: below the lower end, or not below the upper.
-fn out(k: &[u8], low: &[u8], high: &[u8], bounded: bool) -> bool
-    ensures { λ r. ⌜ r ≡ not (inRange (now (low .entry)) (upperOf bounded (now (high .entry))) (now (k .entry))) ⌝ }
+// How a key stands to the upper end of its range, where there is one.
+fn against_upper(k: &[u8], high: &[u8], bounded: bool) -> Ranged
+    ensures { λ r. ⌜ r ≡ againstUpper (upperOf bounded (now (high .entry))) (now (k .entry)) ⌝ }
 {
-    match compare(k, low) {
-        Order::Lower => true,
-        Order::Equal => above(k, high, bounded),
-        Order::Higher => above(k, high, bounded),
+    if !bounded {
+        return Ranged::In;
     }
+    let parting = compare(k, high);
+    let order = parting.order;
+    if is_lower(order) {
+        return Ranged::In;
+    }
+    Ranged::Out(parting.common)
+}
+
+// How a key stands to its range: out of it where it is below the lower end, or not below the upper.
+fn against_range(k: &[u8], low: &[u8], high: &[u8], bounded: bool) -> Ranged
+    ensures { λ r. ⌜ r ≡ rangedOf (now (low .entry)) (upperOf bounded (now (high .entry))) (now (k .entry)) ⌝ }
+{
+    let parting = compare(k, low);
+    let order = parting.order;
+    if is_lower(order) {
+        return Ranged::Out(parting.common);
+    }
+    against_upper(k, high, bounded)
 }
 
 // The first key out of range, looked for from the front.
 fn first_out(b: &[u8], leaf: bool, n: usize, low: &[u8], high: &[u8], bounded: bool) -> Verdict
     requires { ⌜ (n ≡ countOf (now b)) × SoundBlock leaf true (now b) ⌝ }
-    ensures { λ r. ⌜ r ≡ firstBad (keyOut leaf (now (b .entry)) (now (low .entry)) (upperOf bounded (now (high .entry)))) 7 n 0 ⌝ }
+    ensures { λ r. ⌜ r ≡ firstBad (keyOut leaf (now (b .entry)) (now (low .entry)) (upperOf bounded (now (high .entry))))
+        (commonOut leaf (now (b .entry)) (now (low .entry)) (upperOf bounded (now (high .entry)))) 7 n 0 ⌝ }
 {
     let mut i = 0;
     while i < n {
-        if out(key(b, leaf, i), low, high, bounded) {
-            return Verdict::Breach(7, i);
+        match against_range(key(b, leaf, i), low, high, bounded) {
+            Ranged::Out(common) => {
+                return Verdict::Breach(7, i, common);
+            }
+            Ranged::In => {
+                i += 1;
+            }
         }
-        i += 1;
     }
     Verdict::Sound
 }
@@ -69,28 +80,30 @@ fn first_out(b: &[u8], leaf: bool, n: usize, low: &[u8], high: &[u8], bounded: b
 // Rule 8: the keys rise, so where the first and the last are in range, all are.
 fn check_range(b: &[u8], leaf: bool, n: usize, low: &[u8], high: &[u8], bounded: bool) -> Verdict
     requires { ⌜ (n ≡ countOf (now b)) × SoundBlock leaf true (now b) ⌝ }
-    ensures { λ r. ⌜ r ≡ firstBad (keyOut leaf (now (b .entry)) (now (low .entry)) (upperOf bounded (now (high .entry)))) 7 n 0 ⌝ }
+    ensures { λ r. ⌜ r ≡ firstBad (keyOut leaf (now (b .entry)) (now (low .entry)) (upperOf bounded (now (high .entry))))
+        (commonOut leaf (now (b .entry)) (now (low .entry)) (upperOf bounded (now (high .entry)))) 7 n 0 ⌝ }
 {
     if n == 0 {
         return Verdict::Sound;
     }
-    if out(key(b, leaf, 0), low, high, bounded) {
-        return Verdict::Breach(7, 0);
+    match against_range(key(b, leaf, 0), low, high, bounded) {
+        Ranged::Out(common) => Verdict::Breach(7, 0, common),
+        Ranged::In => match against_range(key(b, leaf, n - 1), low, high, bounded) {
+            Ranged::Out(_) => first_out(b, leaf, n, low, high, bounded),
+            Ranged::In => Verdict::Sound,
+        },
     }
-    if out(key(b, leaf, n - 1), low, high, bounded) {
-        return first_out(b, leaf, n, low, high, bounded);
-    }
-    Verdict::Sound
 }
 
 // Rules 5 to 8 of a block.
 fn judge_block(b: &[u8], leaf: bool, empty: bool, low: &[u8], high: &[u8], bounded: bool) -> Verdict
     requires { ⌜ 32 ≤ length (now b) ⌝ }
     ensures { λ r. ⌜ r ≡ andThen (checkOf leaf empty (now (b .entry)))
-        (firstBad (keyOut leaf (now (b .entry)) (now (low .entry)) (upperOf bounded (now (high .entry)))) 7 (countOf (now (b .entry))) 0) ⌝ }
+        (firstBad (keyOut leaf (now (b .entry)) (now (low .entry)) (upperOf bounded (now (high .entry))))
+        (commonOut leaf (now (b .entry)) (now (low .entry)) (upperOf bounded (now (high .entry)))) 7 (countOf (now (b .entry))) 0) ⌝ }
 {
     match check(b, leaf, empty) {
-        Verdict::Breach(number, i) => Verdict::Breach(number, i),
+        Verdict::Breach(number, i, common) => Verdict::Breach(number, i, common),
         Verdict::Sound => check_range(b, leaf, count(b), low, high, bounded),
     }
 }
@@ -112,12 +125,12 @@ pub fn judge_page(
     let b = block(image, p, n, q);
     if is_leaf(b) {
         match judge_block(b, true, top, low, high, bounded) {
-            Verdict::Breach(number, i) => Page::Breach(number, q, i),
+            Verdict::Breach(number, i, common) => Page::Breach(number, q, i, common),
             Verdict::Sound => Page::Leaf(count(b)),
         }
     } else {
         match judge_block(b, false, false, low, high, bounded) {
-            Verdict::Breach(number, i) => Page::Breach(number, q, i),
+            Verdict::Breach(number, i, common) => Page::Breach(number, q, i, common),
             Verdict::Sound => Page::Branch(count(b)),
         }
     }

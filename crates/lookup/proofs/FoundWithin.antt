@@ -53,11 +53,11 @@ module _ (image : List ℕ) (P N : ℕ) (sizes : SoundSizes image P N) (key : Ke
       page : (v : View Value) → viewOf image P N q t ≡ v → lookPage (λ c. lookup N (viewOf image P N) d false c key) v q key ≡ found e p i
           → ((c : ℕ) → lookup N (viewOf image P N) d false c key ≡ found e p i → e .value .place + e .value .length ≤ length image)
           → e .value .place + e .value .length ≤ length image
-      page (bad r x) f g ih = absurd (let z : _≡_ {A = ℕ} 0 1 = cc in omega arith)
+      page (bad r x m) f g ih = absurd (let z : _≡_ {A = ℕ} 0 1 = cc in omega arith)
       page (branch cs) f g ih = ih (childFor cs key) g
       page (leaf es) f g ih = let a = seek-at es key q 0 e p i g in fits q t es (a .0) e f (a .1)
 
-      go : (b : Bool) → cond b (lookPage (λ c. lookup N (viewOf image P N) d false c key) (viewOf image P N q t) q key) (refused 2 q 0) ≡ found e p i
+      go : (b : Bool) → cond b (lookPage (λ c. lookup N (viewOf image P N) d false c key) (viewOf image P N q t) q key) (refused 2 q 0 0) ≡ found e p i
           → (v : View Value) → viewOf image P N q t ≡ v
           → ((c : ℕ) → lookup N (viewOf image P N) d false c key ≡ found e p i → e .value .place + e .value .length ≤ length image)
           → e .value .place + e .value .length ≤ length image
@@ -69,10 +69,10 @@ unfolding lookupOf
 found-within image P N root key v e = go (geometryBad image P N) refl e
   where
     tree : SoundSizes image P N → (a : Answer Value) → lookup N (viewOf image P N) 16 true root key ≡ a → lookedOf a ≡ looked.Found v → v .place + v .length ≤ length image
-    tree s (refused r q i) h g = absurd (let z : _≡_ {A = ℕ} 0 1 = cc in omega arith)
+    tree s (refused r q i m) h g = absurd (let z : _≡_ {A = ℕ} 0 1 = cc in omega arith)
     tree s (found y q i) h g = let u : y .value ≡ v = cc in rw (sym u) (found-fits image P N s key 16 true root y q i h)
     tree s absent h g = absurd (let z : _≡_ {A = ℕ} 0 1 = cc in omega arith)
 
-    go : (t : Bool) → geometryBad image P N ≡ t → cond t (looked.Refused (faultAt 1 0 0)) (lookedOf (lookup N (viewOf image P N) 16 true root key)) ≡ looked.Found v → v .place + v .length ≤ length image
+    go : (t : Bool) → geometryBad image P N ≡ t → cond t (looked.Refused (faultAt 1 0 0 0)) (lookedOf (lookup N (viewOf image P N) 16 true root key)) ≡ looked.Found v → v .place + v .length ≤ length image
     go true g h = absurd (let z : _≡_ {A = ℕ} 0 1 = cc in omega arith)
     go false g h = tree (geometry-sizes image P N g) (lookup N (viewOf image P N) 16 true root key) refl h

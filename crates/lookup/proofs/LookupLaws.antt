@@ -20,7 +20,7 @@ use Rattle.lookup.proofs.StepLaws.{step-down, step-breach, step-found, 
 
 -- ---- geometry, then the tree
 module _ (image : List ℕ) (P N root : ℕ) (key : Key) where
-  pub looks-geometry : geometryBad image P N ≡ true → lookupOf image P N root key ≡ looked.Refused (faultAt 1 0 0)
+  pub looks-geometry : geometryBad image P N ≡ true → lookupOf image P N root key ≡ looked.Refused (faultAt 1 0 0 0)
   unfolding lookupOf
   looks-geometry e = rw e
 
@@ -30,12 +30,12 @@ module _ (image : List ℕ) (P N root : ℕ) (key : Key) where
 
 -- ---- with `left` levels to spend
 module _ (N : ℕ) (view : ℕ → Bool → View Value) (key : Key) (q : ℕ) (t : Bool) where
-  pub deep : (left : ℕ) → left ≤ 0 → lookedOf (lookup N view left t q key) ≡ looked.Refused (faultAt 9 q 0)
+  pub deep : (left : ℕ) → left ≤ 0 → lookedOf (lookup N view left t q key) ≡ looked.Refused (faultAt 9 q 0 0)
   unfolding lookup
   deep zero l = refl
   deep (suc d) l = absurd (omega arith)
 
-  pub outside : (left : ℕ) → 0 < left → inside N q ≡ false → lookedOf (lookup N view left t q key) ≡ looked.Refused (faultAt 2 q 0)
+  pub outside : (left : ℕ) → 0 < left → inside N q ≡ false → lookedOf (lookup N view left t q key) ≡ looked.Refused (faultAt 2 q 0 0)
   unfolding lookup
   outside zero l e = absurd (omega arith)
   outside (suc d) l e = rw e
@@ -47,10 +47,10 @@ module _ (N : ℕ) (view : ℕ → Bool → View Value) (key : Key) (q : ℕ) (t
       let k : suc d - 1 ≡ d = omega arith in
       rw (k, ne-eqb d 16 (λ h. omega arith)) (step-down N view key d q t w c e)
 
-  pub turn-breach : (left : ℕ) → 0 < left → inside N q ≡ true → (r i : ℕ) → stepOf (view q t) key ≡ Breach r i
-      → lookedOf (lookup N view left t q key) ≡ looked.Refused (faultAt r q i)
-  turn-breach zero l w r i e = absurd (omega arith)
-  turn-breach (suc d) l w r i e = step-breach N view key d q t w r i e
+  pub turn-breach : (left : ℕ) → 0 < left → inside N q ≡ true → (r i m : ℕ) → stepOf (view q t) key ≡ Breach r i m
+      → lookedOf (lookup N view left t q key) ≡ looked.Refused (faultAt r q i m)
+  turn-breach zero l w r i m e = absurd (omega arith)
+  turn-breach (suc d) l w r i m e = step-breach N view key d q t w r i m e
 
   pub turn-found : (left : ℕ) → 0 < left → inside N q ≡ true → (x : Value) → stepOf (view q t) key ≡ Found x
       → lookedOf (lookup N view left t q key) ≡ looked.Found x

@@ -28,12 +28,12 @@ seek-free (e ∷ es) key p i q j = go (same (e .key) key) (seek-free es key p (s
     go true h = refl
     go false h = h
 
-seek-never : (es : List (Item Value)) (key : Key) (p i r q e : ℕ) → seekFrom es key p i ≡ refused r q e → ⊥
+seek-never : (es : List (Item Value)) (key : Key) (p i r q e c : ℕ) → seekFrom es key p i ≡ refused r q e c → ⊥
 unfolding seekFrom
-seek-never [] key p i r q e h = let z : _≡_ {A = ℕ} 0 1 = cc in omega arith
-seek-never (x ∷ es) key p i r q e h = go (same (x .key) key) (seek-never es key p (suc i) r q e) h
+seek-never [] key p i r q e c h = let z : _≡_ {A = ℕ} 0 1 = cc in omega arith
+seek-never (x ∷ es) key p i r q e c h = go (same (x .key) key) (seek-never es key p (suc i) r q e c) h
   where
-    go : (t : Bool) → (seekFrom es key p (suc i) ≡ refused r q e → ⊥) → cond t (found x p i) (seekFrom es key p (suc i)) ≡ refused r q e → ⊥
+    go : (t : Bool) → (seekFrom es key p (suc i) ≡ refused r q e c → ⊥) → cond t (found x p i) (seekFrom es key p (suc i)) ≡ refused r q e c → ⊥
     go true ih h = let z : _≡_ {A = ℕ} 0 1 = cc in omega arith
     go false ih h = ih h
 
@@ -47,26 +47,26 @@ module _ (N : ℕ) (view : ℕ → Bool → View Value) (key : Key) (d q : ℕ) 
   step-down c e = looks-at ∙ go (view q t) e
     where
       seeks : (a : Answer Value) → seekStep a ≡ Down c → ⊥
-      seeks (refused r p i) h = let z : _≡_ {A = ℕ} 0 1 = cc in omega arith
+      seeks (refused r p i m) h = let z : _≡_ {A = ℕ} 0 1 = cc in omega arith
       seeks (found y p i) h = let z : _≡_ {A = ℕ} 0 1 = cc in omega arith
       seeks absent h = let z : _≡_ {A = ℕ} 0 1 = cc in omega arith
 
       go : (v : View Value) → stepOf v key ≡ Down c → lookPage (λ p. lookup N view d false p key) v q key ≡ lookup N view d false c key
-      go (bad r x) h = absurd (let z : _≡_ {A = ℕ} 0 1 = cc in omega arith)
+      go (bad r x m) h = absurd (let z : _≡_ {A = ℕ} 0 1 = cc in omega arith)
       go (branch cs) h = let u : childFor cs key ≡ c = cc in ap (λ (p : ℕ). lookup N view d false p key) u
       go (leaf es) h = absurd (seeks (seekFrom es key 0 0) h)
 
-  pub step-breach : (r i : ℕ) → stepOf (view q t) key ≡ Breach r i → lookedOf (lookup N view (suc d) t q key) ≡ looked.Refused (faultAt r q i)
+  pub step-breach : (r i m : ℕ) → stepOf (view q t) key ≡ Breach r i m → lookedOf (lookup N view (suc d) t q key) ≡ looked.Refused (faultAt r q i m)
   unfolding stepOf lookPage
-  step-breach r i e = ap lookedOf looks-at ∙ go (view q t) e
+  step-breach r i m e = ap lookedOf looks-at ∙ go (view q t) e
     where
-      seeks : (es : List (Item Value)) (a : Answer Value) → seekFrom es key 0 0 ≡ a → seekStep a ≡ Breach r i → ⊥
-      seeks es (refused s p j) g h = seek-never es key 0 0 s p j g
+      seeks : (es : List (Item Value)) (a : Answer Value) → seekFrom es key 0 0 ≡ a → seekStep a ≡ Breach r i m → ⊥
+      seeks es (refused s p j n) g h = seek-never es key 0 0 s p j n g
       seeks es (found y p j) g h = let z : _≡_ {A = ℕ} 0 1 = cc in omega arith
       seeks es absent g h = let z : _≡_ {A = ℕ} 0 1 = cc in omega arith
 
-      go : (v : View Value) → stepOf v key ≡ Breach r i → lookedOf (lookPage (λ p. lookup N view d false p key) v q key) ≡ looked.Refused (faultAt r q i)
-      go (bad s x) h = let a : s ≡ r = cc in let b : x ≡ i = cc in rw (a, b)
+      go : (v : View Value) → stepOf v key ≡ Breach r i m → lookedOf (lookPage (λ p. lookup N view d false p key) v q key) ≡ looked.Refused (faultAt r q i m)
+      go (bad s x n) h = let a : s ≡ r = cc in let b : x ≡ i = cc in let o : n ≡ m = cc in rw (a, b, o)
       go (branch cs) h = absurd (let z : _≡_ {A = ℕ} 0 1 = cc in omega arith)
       go (leaf es) h = absurd (seeks es (seekFrom es key 0 0) refl h)
 
@@ -75,12 +75,12 @@ module _ (N : ℕ) (view : ℕ → Bool → View Value) (key : Key) (d q : ℕ) 
   step-found x e = ap lookedOf looks-at ∙ go (view q t) e
     where
       seeks : (a : Answer Value) → seekStep a ≡ Found x → lookedOf a ≡ looked.Found x
-      seeks (refused s p j) h = absurd (let z : _≡_ {A = ℕ} 0 1 = cc in omega arith)
+      seeks (refused s p j m) h = absurd (let z : _≡_ {A = ℕ} 0 1 = cc in omega arith)
       seeks (found y p j) h = let u : y .value ≡ x = cc in rw u
       seeks absent h = absurd (let z : _≡_ {A = ℕ} 0 1 = cc in omega arith)
 
       go : (v : View Value) → stepOf v key ≡ Found x → lookedOf (lookPage (λ p. lookup N view d false p key) v q key) ≡ looked.Found x
-      go (bad s i) h = absurd (let z : _≡_ {A = ℕ} 0 1 = cc in omega arith)
+      go (bad s i m) h = absurd (let z : _≡_ {A = ℕ} 0 1 = cc in omega arith)
       go (branch cs) h = absurd (let z : _≡_ {A = ℕ} 0 1 = cc in omega arith)
       go (leaf es) h = seek-free es key q 0 0 0 ∙ seeks (seekFrom es key 0 0) h
 
@@ -89,12 +89,12 @@ module _ (N : ℕ) (view : ℕ → Bool → View Value) (key : Key) (d q : ℕ) 
   step-absent e = ap lookedOf looks-at ∙ go (view q t) e
     where
       seeks : (a : Answer Value) → seekStep a ≡ Absent → lookedOf a ≡ looked.Absent
-      seeks (refused s p j) h = absurd (let z : _≡_ {A = ℕ} 0 1 = cc in omega arith)
+      seeks (refused s p j m) h = absurd (let z : _≡_ {A = ℕ} 0 1 = cc in omega arith)
       seeks (found y p j) h = absurd (let z : _≡_ {A = ℕ} 0 1 = cc in omega arith)
       seeks absent h = refl
 
       go : (v : View Value) → stepOf v key ≡ Absent → lookedOf (lookPage (λ p. lookup N view d false p key) v q key) ≡ looked.Absent
-      go (bad s i) h = absurd (let z : _≡_ {A = ℕ} 0 1 = cc in omega arith)
+      go (bad s i m) h = absurd (let z : _≡_ {A = ℕ} 0 1 = cc in omega arith)
       go (branch cs) h = absurd (let z : _≡_ {A = ℕ} 0 1 = cc in omega arith)
       go (leaf es) h = seek-free es key q 0 0 0 ∙ seeks (seekFrom es key 0 0) h
 

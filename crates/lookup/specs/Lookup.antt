@@ -15,12 +15,12 @@ use Rattle.view.specs.View.{viewOf}
 abbrev pub lookedOf : Answer Value → Looked
 lookedOf (found e page i) = Found (e .value)
 lookedOf absent = Absent
-lookedOf (refused number page element) = Refused (faultAt number page element)
+lookedOf (refused number page element common) = Refused (faultAt number page element common)
 
 -- geometry first; then at most 16 levels from the root, each page judged whole, to the child at `index`, to a leaf
 unfoldable pub lookupOf : List ℕ → ℕ → ℕ → ℕ → Key → Looked
 lookupOf image P N root key =
-    cond (geometryBad image P N) (Refused (faultAt 1 0 0)) (lookedOf (lookup N (viewOf image P N) 16 true root key))
+    cond (geometryBad image P N) (Refused (faultAt 1 0 0 0)) (lookedOf (lookup N (viewOf image P N) 16 true root key))
 
 -- 01's number of the answer
 abbrev pub lookedNumber : Looked → ℕ

@@ -9,9 +9,9 @@ use Rattle.lookup.specs.declared.descent.Step.the-variants.{Down, Found,
 abbrev pub seekStep : Answer Value → Step
 seekStep (found e page i) = Found (e .value)
 seekStep absent = Absent
-seekStep (refused number page element) = Breach number element
+seekStep (refused number page element common) = Breach number element common
 
 unfoldable pub stepOf : View Value → Key → Step
-stepOf (bad number element) key = Breach number element
+stepOf (bad number element common) key = Breach number element common
 stepOf (branch cs) key = Down (childFor cs key)
 stepOf (leaf es) key = seekStep (seekFrom es key 0 0)

@@ -21,12 +21,12 @@ use view::Value;
 use view::image::block;
 use view::image::from_page;
 
-// What a page says of a key: the child to go to, the entry, that there is none, or a breach with its element.
+// What a page says of a key: the child to go to, the entry, that there is none, or a breach with its element and the length of a common beginning.
 pub enum Step {
     Down(usize),
     Found(Value),
     Absent,
-    Breach(u64, usize),
+    Breach(u64, usize, usize),
 }
 
 // The child of a sound branch to which a key leads.
@@ -62,17 +62,17 @@ pub fn look_at(image: &[u8], p: usize, n: usize, q: usize, top: bool, key: &[u8]
     ensures { λ r. ⌜ r ≡ stepOf (viewOf (now (image .entry)) p n q top) (now (key .entry)) ⌝ }
 {
     if header_bad(from_page(image, p, n, q), n, q) {
-        return Step::Breach(3, 0);
+        return Step::Breach(3, 0, 0);
     }
     let b = block(image, p, n, q);
     if is_leaf(b) {
         match check(b, true, top) {
-            Verdict::Breach(number, i) => Step::Breach(number, i),
+            Verdict::Breach(number, i, common) => Step::Breach(number, i, common),
             Verdict::Sound => seek(b, q * p, key),
         }
     } else {
         match check(b, false, false) {
-            Verdict::Breach(number, i) => Step::Breach(number, i),
+            Verdict::Breach(number, i, common) => Step::Breach(number, i, common),
             Verdict::Sound => Step::Down(child_for(b, key)),
         }
     }

@@ -19,14 +19,15 @@ pub enum Looked {
     Refused(Fault),
 }
 
-// The refusal with this number, page and element.
-fn refused(number: u64, page: usize, element: usize) -> Looked
-    ensures { λ r. ⌜ r ≡ Looked.Refused (faultAt number page element) ⌝ }
+// The refusal with this number, page, element and length of a common beginning.
+fn refused(number: u64, page: usize, element: usize, common: usize) -> Looked
+    ensures { λ r. ⌜ r ≡ Looked.Refused (faultAt number page element common) ⌝ }
 {
     Looked::Refused(Fault {
         number,
         page,
         element,
+        common,
     })
 }
 
@@ -35,13 +36,13 @@ pub fn lookup(image: &[u8], p: usize, n: usize, root: usize, key: &[u8]) -> Look
     ensures { λ r. ⌜ r ≡ lookupOf (now (image .entry)) p n root (now (key .entry)) ⌝ }
 {
     if geometry_bad(image, p, n) {
-        return refused(1, 0, 0);
+        return refused(1, 0, 0, 0);
     }
     let mut q = root;
     let mut left = LEVELS;
     while 0 < left {
         if !inside(n, q) {
-            return refused(2, q, 0);
+            return refused(2, q, 0, 0);
         }
         match look_at(image, p, n, q, left == LEVELS, key) {
             Step::Down(child) => {
@@ -54,12 +55,12 @@ pub fn lookup(image: &[u8], p: usize, n: usize, root: usize, key: &[u8]) -> Look
             Step::Absent => {
                 return Looked::Absent;
             }
-            Step::Breach(number, i) => {
-                return refused(number, q, i);
+            Step::Breach(number, i, common) => {
+                return refused(number, q, i, common);
             }
         }
     }
-    refused(9, q, 0)
+    refused(9, q, 0, 0)
 }
 
 // The value's bytes, as a part of the image; absent or refused gives an empty part.

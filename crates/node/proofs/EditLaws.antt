@@ -26,22 +26,22 @@ same-node leaf P out e f h = rw (e, f) at h
 pub same-edits : {o o' : Outcome} {r : Edited} {exit : List ℕ} (leaf : Bool) (id P : ℕ) (out : List ℕ) → o' ≡ o → Edits leaf id P out o r exit → Edits leaf id P out o' r exit
 same-edits leaf id P out e h = rw e h
 
-pub refused-edits : {o : Outcome} (leaf : Bool) (id P : ℕ) (out : List ℕ) (number element : ℕ) → o ≡ refused number element
-    → Edits leaf id P out o (Refused number element) out
-refused-edits leaf id P out number element e = record { answers = rw e; leaves = rw e }
+pub refused-edits : {o : Outcome} (leaf : Bool) (id P : ℕ) (out : List ℕ) (number element common : ℕ) → o ≡ refused number element common
+    → Edits leaf id P out o (Refused number element common) out
+refused-edits leaf id P out number element common e = record { answers = rw e; leaves = rw e }
 
 -- ---- delete
 module _ (P : ℕ) (b : List ℕ) (i : ℕ) (out : List ℕ) where
-  pub delete-breach : (number element : ℕ) → lentCheckOf P b ≡ Breach number element → deleteOf P b i out ≡ refused number element
+  pub delete-breach : (number element common : ℕ) → lentCheckOf P b ≡ Breach number element common → deleteOf P b i out ≡ refused number element common
   unfolding deleteOf
-  delete-breach number element e = rw e
+  delete-breach number element common e = rw e
 
   module _ (passed : lentCheckOf P b ≡ Sound) where
-    pub delete-branch : isLeaf b ≡ false → deleteOf P b i out ≡ refused 11 0
+    pub delete-branch : isLeaf b ≡ false → deleteOf P b i out ≡ refused 11 0 0
     unfolding deleteOf
     delete-branch h = rw (passed, h)
 
-    pub delete-past : isLeaf b ≡ true → countOf b ≤ i → deleteOf P b i out ≡ refused 11 0
+    pub delete-past : isLeaf b ≡ true → countOf b ≤ i → deleteOf P b i out ≡ refused 11 0 0
     unfolding deleteOf
     delete-past h k = rw (passed, h, le-ltb i (countOf b) k)
 
@@ -50,27 +50,27 @@ module _ (P : ℕ) (b : List ℕ) (i : ℕ) (out : List ℕ) where
     delete-goes h k = rw (passed, h, lt-ltb i (countOf b) k)
 
 -- an edit's answer as that of `delete`
-as-refused : (P : ℕ) (b : List ℕ) (i : ℕ) (o : Outcome) (number element : ℕ) → Refused number element ≡ answer true P o
-    → deleted.Refused number element ≡ deletedAnswer P b i o
-as-refused P b i (refused m j) number element e = cc
-as-refused P b i (node es) number element e = absurd (let z : _≡_ {A = ℕ} 0 1 = cc in omega arith)
+as-refused : (P : ℕ) (b : List ℕ) (i : ℕ) (o : Outcome) (number element common : ℕ) → Refused number element common ≡ answer true P o
+    → deleted.Refused number element common ≡ deletedAnswer P b i o
+as-refused P b i (refused m j k) number element common e = cc
+as-refused P b i (node es) number element common e = absurd (let z : _≡_ {A = ℕ} 0 1 = cc in omega arith)
 
 as-removed : (P : ℕ) (b : List ℕ) (i : ℕ) (o : Outcome) (bytes : ℕ) → Written bytes ≡ answer true P o
     → deleted.Removed bytes (leafOf b i) ≡ deletedAnswer P b i o
-as-removed P b i (refused m j) bytes e = absurd (let z : _≡_ {A = ℕ} 0 1 = cc in omega arith)
+as-removed P b i (refused m j k) bytes e = absurd (let z : _≡_ {A = ℕ} 0 1 = cc in omega arith)
 as-removed P b i (node es) bytes e = cc
 
 module _ {id : ℕ} {out exit : List ℕ} {o o' : Outcome} {r : Edited} (P : ℕ) (b : List ℕ) (i : ℕ) (same : o' ≡ o) (h : Edits true id P out o r exit) where
-  pub deleted-refused : (number element : ℕ) → r ≡ Refused number element
-      → (deleted.Refused number element ≡ deletedAnswer P b i o') × (exit ≡ output true id P out o')
-  deleted-refused number element e = rw same (as-refused P b i o number element (sym e ∙ h .answers), h .leaves)
+  pub deleted-refused : (number element common : ℕ) → r ≡ Refused number element common
+      → (deleted.Refused number element common ≡ deletedAnswer P b i o') × (exit ≡ output true id P out o')
+  deleted-refused number element common e = rw same (as-refused P b i o number element common (sym e ∙ h .answers), h .leaves)
 
   pub deleted-done : (bytes : ℕ) → r ≡ Written bytes → (deleted.Removed bytes (leafOf b i) ≡ deletedAnswer P b i o') × (exit ≡ output true id P out o')
   deleted-done bytes e = rw same (as-removed P b i o bytes (sym e ∙ h .answers), h .leaves)
 
 -- ---- new nodes
 module _ (P : ℕ) (out : List ℕ) where
-  pub leaf-size : sizeAllowed P ≡ false → newLeafOf P out ≡ refused 1 0
+  pub leaf-size : sizeAllowed P ≡ false → newLeafOf P out ≡ refused 1 0 0
   unfolding newLeafOf
   leaf-size h = rw h
 
@@ -79,11 +79,11 @@ module _ (P : ℕ) (out : List ℕ) where
   leaf-goes h = rw h
 
   module _ (key : List ℕ) (child : ℕ) where
-    pub branch-size : sizeAllowed P ≡ false → newBranchOf P key child out ≡ refused 1 0
+    pub branch-size : sizeAllowed P ≡ false → newBranchOf P key child out ≡ refused 1 0 0
     unfolding newBranchOf
     branch-size h = rw h
 
-    pub branch-child : sizeAllowed P ≡ true → child < 2 → newBranchOf P key child out ≡ refused 11 0
+    pub branch-child : sizeAllowed P ≡ true → child < 2 → newBranchOf P key child out ≡ refused 11 0 0
     unfolding newBranchOf
     branch-child h l = rw (h, lt-ltb child 2 l)
 
@@ -93,16 +93,16 @@ module _ (P : ℕ) (out : List ℕ) where
 
 -- ---- insert in a leaf
 module _ (P : ℕ) (b key : List ℕ) (kind : ℕ) (value out : List ℕ) where
-  pub insert-breach : (number element : ℕ) → lentCheckOf P b ≡ Breach number element → insertOf P b key kind value out ≡ refused number element
+  pub insert-breach : (number element common : ℕ) → lentCheckOf P b ≡ Breach number element common → insertOf P b key kind value out ≡ refused number element common
   unfolding insertOf
-  insert-breach number element e = rw e
+  insert-breach number element common e = rw e
 
   module _ (passed : lentCheckOf P b ≡ Sound) where
-    pub insert-branch : isLeaf b ≡ false → insertOf P b key kind value out ≡ refused 11 0
+    pub insert-branch : isLeaf b ≡ false → insertOf P b key kind value out ≡ refused 11 0 0
     unfolding insertOf
     insert-branch h = rw (passed, h)
 
-    pub insert-kind : isLeaf b ≡ true → kindBad kind (length value) ≡ true → insertOf P b key kind value out ≡ refused 11 0
+    pub insert-kind : isLeaf b ≡ true → kindBad kind (length value) ≡ true → insertOf P b key kind value out ≡ refused 11 0 0
     unfolding insertOf
     insert-kind h k = rw (passed, h, k)
 
@@ -113,16 +113,16 @@ module _ (P : ℕ) (b key : List ℕ) (kind : ℕ) (value out : List ℕ) where
 
 -- ---- insert in a branch
 module _ (P : ℕ) (b : List ℕ) (has : Bool) (original key : List ℕ) (child : ℕ) (out : List ℕ) where
-  pub branched-breach : (number element : ℕ) → lentCheckOf P b ≡ Breach number element → insertBranchOf P b has original key child out ≡ refused number element
+  pub branched-breach : (number element common : ℕ) → lentCheckOf P b ≡ Breach number element common → insertBranchOf P b has original key child out ≡ refused number element common
   unfolding insertBranchOf
-  branched-breach number element e = rw e
+  branched-breach number element common e = rw e
 
   module _ (passed : lentCheckOf P b ≡ Sound) where
-    pub branched-leaf : isLeaf b ≡ true → insertBranchOf P b has original key child out ≡ refused 11 0
+    pub branched-leaf : isLeaf b ≡ true → insertBranchOf P b has original key child out ≡ refused 11 0 0
     unfolding insertBranchOf
     branched-leaf h = rw (passed, h)
 
-    pub branched-child : isLeaf b ≡ false → child < 2 → insertBranchOf P b has original key child out ≡ refused 11 0
+    pub branched-child : isLeaf b ≡ false → child < 2 → insertBranchOf P b has original key child out ≡ refused 11 0 0
     unfolding insertBranchOf
     branched-child h l = rw (passed, h, lt-ltb child 2 l)
 

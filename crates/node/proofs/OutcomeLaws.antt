@@ -25,7 +25,7 @@ use Rattle.node.specs.Edit.{Outcome, refused, node, refuse, written, ins
 module _ {es : List Entry} where
   pub checked-node : (v : Verdict) (o : Outcome) → afterCheck v refused o ≡ node es → (v ≡ Sound) × (o ≡ node es)
   checked-node Sound o e = (refl, e)
-  checked-node (Breach n i) o e = absurd (let z : _≡_ {A = ℕ} 0 1 = cc in omega arith)
+  checked-node (Breach n i common) o e = absurd (let z : _≡_ {A = ℕ} 0 1 = cc in omega arith)
 
   pub refuse-node : (bad : Bool) (n : ℕ) (o : Outcome) → refuse bad n o ≡ node es → (bad ≡ false) × (o ≡ node es)
   refuse-node false n o e = (refl, e)

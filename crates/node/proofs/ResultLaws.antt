@@ -53,7 +53,7 @@ counted-three sum a b c e f g = omega arith
 
 -- ---- the ends: too large, too short, written; in the code's numbers, the counted size and the pages
 module _ (leaf : Bool) (id P : ℕ) (out : List ℕ) (es : List Entry) (size : ℕ) (told : size ≡ cappedSize (nodeSize leaf es)) where
-  pub too-large : nodeLimit < size → Edits leaf id P out (written leaf P out es) (Refused 15 0) out
+  pub too-large : nodeLimit < size → Edits leaf id P out (written leaf P out es) (Refused 15 0 0) out
   unfolding written
   too-large h = let e = past-limit size (nodeSize leaf es) told h in record { answers = rw e; leaves = rw e }
 
@@ -61,7 +61,7 @@ module _ (leaf : Bool) (id P : ℕ) (out : List ℕ) (es : List Entry) (size : �
     pub pages-size : pages * P ≡ blockSize leaf es P
     pages-size = rw (hp, within-limit size (nodeSize leaf es) told h .0)
 
-    pub too-short : length out / P < pages → Edits leaf id P out (written leaf P out es) (Refused 10 0) out
+    pub too-short : length out / P < pages → Edits leaf id P out (written leaf P out es) (Refused 10 0 0) out
     unfolding written
     too-short l =
         let e = within-limit size (nodeSize leaf es) told h .1 in

@@ -21,14 +21,14 @@ use Rattle.node.specs.declared.edit.Edited.the-variants as edited
 use Rattle.node.specs.declared.edit.Deleted.{Deleted}
 use Rattle.node.specs.declared.edit.Deleted.the-variants as deleted
 
--- ---- what an edit comes to: a refusal, by 01's number and the element (0 where none), or the entries of the resulting node
+-- ---- what an edit comes to: a refusal, by 01's number, the element and the common beginning (0 where there is none), or the entries of the resulting node
 pub data Outcome : Type 0 where
-  refused : ℕ → ℕ → Outcome
+  refused : ℕ → ℕ → ℕ → Outcome
   node : List Entry → Outcome
 
 -- a refusal that names no element, where there is one
 abbrev pub refuse : Bool → ℕ → Outcome → Outcome
-refuse bad number o = cond bad (refused number 0) o
+refuse bad number o = cond bad (refused number 0 0) o
 
 -- size 15 where the resulting node is above the limit, and room 10 where the output is shorter than its block
 unfoldable pub written : Bool → ℕ → List ℕ → List Entry → Outcome
@@ -36,11 +36,11 @@ written leaf P out es = refuse (ltb nodeLimit (nodeSize leaf es)) 15 (refuse (lt
 
 -- ---- the answer, and what the output then holds: the packed block and its own rest, or all its own bytes
 abbrev pub answer : Bool → ℕ → Outcome → Edited
-answer leaf P (refused number element) = edited.Refused number element
+answer leaf P (refused number element common) = edited.Refused number element common
 answer leaf P (node es) = edited.Written (blockSize leaf es P)
 
 abbrev pub output : Bool → ℕ → ℕ → List ℕ → Outcome → List ℕ
-output leaf id P out (refused number element) = out
+output leaf id P out (refused number element common) = out
 output leaf id P out (node es) = pack leaf id es P ++ drop (blockSize leaf es P) out
 
 -- what a call promises: its answer and the output's bytes are those of an outcome
@@ -56,7 +56,7 @@ deleteOf P b i out =
 
 -- its answer names what was removed beside the bytes written
 abbrev pub deletedAnswer : ℕ → List ℕ → ℕ → Outcome → Deleted
-deletedAnswer P b i (refused number element) = deleted.Refused number element
+deletedAnswer P b i (refused number element common) = deleted.Refused number element common
 deletedAnswer P b i (node es) = deleted.Removed (blockSize true es P) (leafOf b i)
 
 -- ---- new nodes: an empty leaf, and a branch of one entry, whose page is not below 2

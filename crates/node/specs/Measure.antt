@@ -22,7 +22,7 @@ sizeIn b = nodeSize (isLeaf b) (entriesOf (isLeaf b) b)
 unfoldable pub sizeOf : ℕ → List ℕ → Measure
 sizeOf P b =
     afterCheck (lentCheckOf P b) measure.Refused
-    (cond (ltb nodeLimit (sizeIn b)) (measure.Refused 15 0) (measure.Bytes (sizeIn b) (pagesNeeded (sizeIn b) P)))
+    (cond (ltb nodeLimit (sizeIn b)) (measure.Refused 15 0 0) (measure.Bytes (sizeIn b) (pagesNeeded (sizeIn b) P)))
 
 -- `needs_merging`: wanted with fewer than 2 entries, or a size below P / 4, rounded down
 unfoldable pub needsMergingOf : ℕ → List ℕ → Merging

@@ -20,16 +20,16 @@ use page::rules::lent_check;
 use page::search::Leaf;
 use page::search::leaf_at;
 
-// What an edit answers: the bytes of the block written; a refusal has 01's number and the element.
+// What an edit answers: the bytes of the block written; a refusal has 01's number, the element and the length of a common beginning.
 pub enum Edited {
     Written(usize),
-    Refused(u64, usize),
+    Refused(u64, usize, usize),
 }
 
 // What `delete` answers: the bytes of the block written, and where what was removed lies in the lent block.
 pub enum Deleted {
     Removed(usize, Leaf),
-    Refused(u64, usize),
+    Refused(u64, usize, usize),
 }
 
 // Writes a sound leaf without its entry `i`.
@@ -57,17 +57,17 @@ pub fn delete(b: &[u8], p: usize, i: usize, out: &mut [u8]) -> Deleted
         × (now (out .exit) ≡ output true (idOf (now (b .entry))) p (now (out .entry)) (deleteOf p (now (b .entry)) i (now (out .entry)))) ⌝ }
 {
     match lent_check(b, p) {
-        Verdict::Breach(number, j) => Deleted::Refused(number, j),
+        Verdict::Breach(number, j, common) => Deleted::Refused(number, j, common),
         Verdict::Sound => {
             if !is_leaf(b) {
-                return Deleted::Refused(11, 0);
+                return Deleted::Refused(11, 0, 0);
             }
             if count(b) <= i {
-                return Deleted::Refused(11, 0);
+                return Deleted::Refused(11, 0, 0);
             }
             let leaf = leaf_at(b, i);
             match remove(b, p, i, out) {
-                Edited::Refused(number, j) => Deleted::Refused(number, j),
+                Edited::Refused(number, j, common) => Deleted::Refused(number, j, common),
                 Edited::Written(bytes) => Deleted::Removed(bytes, leaf),
             }
         }
@@ -106,7 +106,7 @@ pub fn new_leaf(p: usize, id: u64, out: &mut [u8]) -> Edited
     ensures { λ r. ⌜ Edits true id p (now (out .entry)) (newLeafOf p (now (out .entry))) r (now (out .exit)) ⌝ }
 {
     if !size_allowed(p) {
-        return Edited::Refused(1, 0);
+        return Edited::Refused(1, 0, 0);
     }
     let none = [0; 1];
     write_new(true, false, 0, &none, &none, id, p, out)
@@ -117,10 +117,10 @@ pub fn new_branch(p: usize, id: u64, key: &[u8], child: u64, out: &mut [u8]) -> 
     ensures { λ r. ⌜ Edits false id p (now (out .entry)) (newBranchOf p (now (key .entry)) child (now (out .entry))) r (now (out .exit)) ⌝ }
 {
     if !size_allowed(p) {
-        return Edited::Refused(1, 0);
+        return Edited::Refused(1, 0, 0);
     }
     if child < 2 {
-        return Edited::Refused(11, 0);
+        return Edited::Refused(11, 0, 0);
     }
     write_new(false, true, child, key, &key[0..0], id, p, out)
 }
@@ -131,13 +131,13 @@ pub fn insert_data(b: &[u8], p: usize, key: &[u8], kind: u8, value: &[u8], out: 
         (insertOf p (now (b .entry)) (now (key .entry)) kind (now (value .entry)) (now (out .entry))) r (now (out .exit)) ⌝ }
 {
     match lent_check(b, p) {
-        Verdict::Breach(number, i) => Edited::Refused(number, i),
+        Verdict::Breach(number, i, common) => Edited::Refused(number, i, common),
         Verdict::Sound => {
             if !is_leaf(b) {
-                return Edited::Refused(11, 0);
+                return Edited::Refused(11, 0, 0);
             }
             if kind_bad(kind, value.len()) {
-                return Edited::Refused(11, 0);
+                return Edited::Refused(11, 0, 0);
             }
             put(b, true, p, kind as u64, key, value, out)
         }

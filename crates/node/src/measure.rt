@@ -9,16 +9,16 @@ use page::rules::lent_check;
 use size::NODE_LIMIT;
 use size::node_size;
 
-// What `size` answers: the node size and the pages needed; a refusal has 01's number and the element.
+// What `size` answers: the node size and the pages needed; a refusal has 01's number, the element and the length of a common beginning.
 pub enum Measure {
     Bytes(usize, usize),
-    Refused(u64, usize),
+    Refused(u64, usize, usize),
 }
 
 // What `needs_merging` answers.
 pub enum Merging {
     Wanted(bool),
-    Refused(u64, usize),
+    Refused(u64, usize, usize),
 }
 
 // The size of a lent block's node, and the pages that it needs.
@@ -26,11 +26,11 @@ pub fn size(b: &[u8], p: usize) -> Measure
     ensures { λ r. ⌜ r ≡ sizeOf p (now (b .entry)) ⌝ }
 {
     match lent_check(b, p) {
-        Verdict::Breach(number, i) => Measure::Refused(number, i),
+        Verdict::Breach(number, i, common) => Measure::Refused(number, i, common),
         Verdict::Sound => {
             let bytes = node_size(b, is_leaf(b));
             if NODE_LIMIT < bytes {
-                return Measure::Refused(15, 0);
+                return Measure::Refused(15, 0, 0);
             }
             Measure::Bytes(bytes, pages_needed(bytes, p))
         }
@@ -42,7 +42,7 @@ pub fn needs_merging(b: &[u8], p: usize) -> Merging
     ensures { λ r. ⌜ r ≡ needsMergingOf p (now (b .entry)) ⌝ }
 {
     match lent_check(b, p) {
-        Verdict::Breach(number, i) => Merging::Refused(number, i),
+        Verdict::Breach(number, i, common) => Merging::Refused(number, i, common),
         Verdict::Sound => {
             if count(b) < 2 {
                 return Merging::Wanted(true);

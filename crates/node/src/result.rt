@@ -68,11 +68,11 @@ pub fn write_planned(
 {
     let size = plan_size(b, leaf, plan, key, value);
     if NODE_LIMIT < size {
-        return Edited::Refused(15, 0);
+        return Edited::Refused(15, 0, 0);
     }
     let pages = pages_needed(size, p);
     if out.len() / p < pages {
-        return Edited::Refused(10, 0);
+        return Edited::Refused(10, 0, 0);
     }
     Edited::Written(write(b, leaf, plan, key, value, id, p, out))
 }

@@ -1,7 +1,8 @@
 -- A lent block: what its length and its header say, and that its check answers Sound for the sound ones and no others.
+-- 02, order 2: a common beginning above 0 is told with 6 alone (`lent-common`).
 -- Assumes nothing.
-use mathlib.Core.Path.{_≡_, sym}
-use mathlib.Core.Bool.{true, false}
+use mathlib.Core.Path.{_≡_, refl, sym, _∙_}
+use mathlib.Core.Bool.{Bool, true, false}
 use mathlib.Core.List.{List}
 use mathlib.Core.Logic.{_↔_}
 use Prim.Native.Nat.{ℕ, _+_, _-_, _*_, _/_, _%_, _≤_, _<_}
@@ -16,6 +17,7 @@ use Rattle.page.specs.PageRules.{checkOf, lengthBad, lentHeaderBad, lent
 use Rattle.field.specs.Sizes.{sizeAllowed}
 use Rattle.page.proofs.TestLaws.{eqb-same, and-both}
 use Rattle.page.proofs.RuleLaws.{breachIf-sound, check-sound, sound-check, sound-weaker}
+use Rattle.page.proofs.FirstBreach.{breach-common}
 
 -- a whole number of pages, and one at least
 pub record LengthGood (P : ℕ) (b : List ℕ) : Type 0 where
@@ -56,11 +58,11 @@ module _ (P : ℕ) (b : List ℕ) where
             omega arith
 
   -- the check, a step at a time
-  pub lent-length : lengthBad P b ≡ true → lentCheckOf P b ≡ Breach 1 0
+  pub lent-length : lengthBad P b ≡ true → lentCheckOf P b ≡ Breach 1 0 0
   unfolding lentCheckOf
   lent-length e = rw e
 
-  pub lent-header : lengthBad P b ≡ false → lentHeaderBad P b ≡ true → lentCheckOf P b ≡ Breach 3 0
+  pub lent-header : lengthBad P b ≡ false → lentHeaderBad P b ≡ true → lentCheckOf P b ≡ Breach 3 0 0
   unfolding lentCheckOf
   lent-header e f = rw (e, f)
 
@@ -86,3 +88,15 @@ module _ (P : ℕ) (b : List ℕ) where
       let s = g .size in
       let l = g .least in
       (omega arith, sound-weaker (isLeaf b) (isLeaf b) b (h .2))
+
+  -- what it tells of two keys
+  pub lent-common : (number i common : ℕ) → lentCheckOf P b ≡ Breach number i common → 0 < common → number ≡ 6
+  lent-common number i common e l = go (lengthBad P b) refl (lentHeaderBad P b) refl
+    where
+      told : (k : ℕ) → lentCheckOf P b ≡ Breach k 0 0 → number ≡ 6
+      told k h = absurd (let f : Breach k 0 0 ≡ Breach number i common = sym h ∙ e in let z : 0 ≡ common = cc in omega arith)
+
+      go : (t : Bool) → lengthBad P b ≡ t → (u : Bool) → lentHeaderBad P b ≡ u → number ≡ 6
+      go true t u h = told 1 (lent-length t)
+      go false t true h = told 3 (lent-header t h)
+      go false t false h = breach-common (isLeaf b) (isLeaf b) b number i common (sym (lent-rest t h) ∙ e) l

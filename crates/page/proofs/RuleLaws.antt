@@ -14,40 +14,41 @@ use borrow.Author.Tests.{le-ltb, ltb-false, lt-leb, leb-false, eq-eqb, ne-eqb, e
 use Rattle.field.specs.declared.order.Order.{Order}
 use Rattle.field.specs.declared.order.Order.the-variants.{Lower}
 use Rattle.field.specs.Order.{orderOf, isLower}
+use Rattle.field.specs.Rising.{alikeUnlessLower}
 use Rattle.field.proofs.OrderLaws.{is-lower}
 use Rattle.page.specs.declared.rules.Verdict.{Verdict}
 use Rattle.page.specs.declared.rules.Verdict.the-variants.{Sound, Breach}
 use Rattle.page.specs.Layout.{idOf, overflowOf, isBranch, countOf, elementSize, elementAt, posOf, keySize, valueSize, tableEnd, isLeaf, keyAt, valueAt, valueEnd, keyOf}
-use Rattle.page.specs.PageRules.{headerBad, andThen, breachIf, firstBad, outside, tableBad, elementBad, keyBad, kindBad, kindBadAt, checkOf, SoundBlock}
+use Rattle.page.specs.PageRules.{headerBad, andThen, breachIf, noCommon, firstBad, outside, tableBad, elementBad, keyBad, commonBefore, kindBad, kindBadAt, checkOf, SoundBlock}
 use Rattle.page.proofs.TestLaws.{ltb-same, and-both, or-neither}
 
 -- ---- the first bad element, from i on and below n
-module _ (bad : ℕ → Bool) (number n i : ℕ) where
-  pub bad-skip : i < n → bad i ≡ false → firstBad bad number (n - i) i ≡ firstBad bad number (n - (i + 1)) (i + 1)
+module _ (bad : ℕ → Bool) (common : ℕ → ℕ) (number n i : ℕ) where
+  pub bad-skip : i < n → bad i ≡ false → firstBad bad common number (n - i) i ≡ firstBad bad common number (n - (i + 1)) (i + 1)
   unfolding firstBad
   bad-skip l h = let e : n - i ≡ suc (n - (i + 1)) = omega arith in rw (e, h)
 
-  pub bad-here : i < n → bad i ≡ true → firstBad bad number (n - i) i ≡ Breach number i
+  pub bad-here : i < n → bad i ≡ true → firstBad bad common number (n - i) i ≡ Breach number i (common i)
   unfolding firstBad
   bad-here l h = let e : n - i ≡ suc (n - (i + 1)) = omega arith in rw (e, h)
 
-  pub bad-none : n ≤ i → firstBad bad number (n - i) i ≡ Sound
+  pub bad-none : n ≤ i → firstBad bad common number (n - i) i ≡ Sound
   unfolding firstBad
   bad-none l = let e : n - i ≡ 0 = omega arith in rw e
 
 -- it is Sound where no element is bad, and only there
-pub none-bad : (bad : ℕ → Bool) (number k i : ℕ) → ((j : ℕ) → i ≤ j → j < i + k → bad j ≡ false) → firstBad bad number k i ≡ Sound
+pub none-bad : (bad : ℕ → Bool) (common : ℕ → ℕ) (number k i : ℕ) → ((j : ℕ) → i ≤ j → j < i + k → bad j ≡ false) → firstBad bad common number k i ≡ Sound
 unfolding firstBad
-none-bad bad number zero i h = refl
-none-bad bad number (suc k) i h = rw (h i (omega arith) (omega arith)) (none-bad bad number k (i + 1) (λ j l m. h j (omega arith) (omega arith)))
+none-bad bad common number zero i h = refl
+none-bad bad common number (suc k) i h = rw (h i (omega arith) (omega arith)) (none-bad bad common number k (i + 1) (λ j l m. h j (omega arith) (omega arith)))
 
-pub bad-none-at : (bad : ℕ → Bool) (number k i : ℕ) → firstBad bad number k i ≡ Sound → (j : ℕ) → i ≤ j → j < i + k → bad j ≡ false
+pub bad-none-at : (bad : ℕ → Bool) (common : ℕ → ℕ) (number k i : ℕ) → firstBad bad common number k i ≡ Sound → (j : ℕ) → i ≤ j → j < i + k → bad j ≡ false
 unfolding firstBad
-bad-none-at bad number zero i e j l m = absurd (omega arith)
-bad-none-at bad number (suc k) i e j l m = go (bad-none-at bad number k (i + 1)) (bad i) refl
+bad-none-at bad common number zero i e j l m = absurd (omega arith)
+bad-none-at bad common number (suc k) i e j l m = go (bad-none-at bad common number k (i + 1)) (bad i) refl
   where
-    go : (firstBad bad number k (i + 1) ≡ Sound → (j : ℕ) → i + 1 ≤ j → j < i + 1 + k → bad j ≡ false) → (t : Bool) → bad i ≡ t → bad j ≡ false
-    go ih true p = absurd (let f : Breach number i ≡ Sound = rw p at e in let z : _≡_ {A = ℕ} 0 1 = cc in omega arith)
+    go : (firstBad bad common number k (i + 1) ≡ Sound → (j : ℕ) → i + 1 ≤ j → j < i + 1 + k → bad j ≡ false) → (t : Bool) → bad i ≡ t → bad j ≡ false
+    go ih true p = absurd (let f : Breach number i (common i) ≡ Sound = rw p at e in let z : _≡_ {A = ℕ} 0 1 = cc in omega arith)
     go ih false p = ⊎-elim (λ q. ap bad (sym q) ∙ p) (λ q. ih (rw p at e) j (omega arith) (omega arith)) (eq-or-lt-of-le l)
 
 -- ---- what the code of each rule tests
@@ -78,10 +79,26 @@ pub element-test : (leaf : Bool) (b : List ℕ) (i end pos key value : ℕ) (out
 unfolding elementBad
 element-test leaf b i end pos key value out kind p q r s o k = rw (o, k, p, q, r, s)
 
--- rule 7
-pub key-test : (leaf : Bool) (b : List ℕ) (i : ℕ) (o : Order) → o ≡ orderOf (keyOf leaf b (i - 1)) (keyOf leaf b i) → keyBad leaf b i ≡ not (isLower o)
-unfolding keyBad
-key-test leaf b i o h = ap (λ (x : Order). not (isLower x)) (sym h)
+-- rule 7: how far the key before an element and its own are alike
+module _ (leaf : Bool) (b : List ℕ) (i : ℕ) where
+  abbrev pub alikeBefore : ℕ
+  alikeBefore = alikeUnlessLower (keyOf leaf b (i - 1)) (keyOf leaf b i)
+
+  pub rising-key : alikeBefore ≤ 0 → keyBad leaf b i ≡ false
+  unfolding keyBad
+  rising-key h = go (isLower (orderOf (keyOf leaf b (i - 1)) (keyOf leaf b i))) refl
+    where
+      go : (t : Bool) → isLower (orderOf (keyOf leaf b (i - 1)) (keyOf leaf b i)) ≡ t → keyBad leaf b i ≡ false
+      go true e = ap not e
+      go false e = absurd (let f : suc (commonBefore leaf b i) ≤ 0 = rw e at h in omega arith)
+
+  pub falling-key : 0 < alikeBefore → (keyBad leaf b i ≡ true) × (alikeBefore - 1 ≡ commonBefore leaf b i)
+  unfolding keyBad
+  falling-key h = go (isLower (orderOf (keyOf leaf b (i - 1)) (keyOf leaf b i))) refl
+    where
+      go : (t : Bool) → isLower (orderOf (keyOf leaf b (i - 1)) (keyOf leaf b i)) ≡ t → (keyBad leaf b i ≡ true) × (alikeBefore - 1 ≡ commonBefore leaf b i)
+      go true e = absurd (let f : 0 < 0 = rw e at h in omega arith)
+      go false e = (ap not e, rw e (omega arith))
 
 -- ---- rule 4 in words
 module _ (N q : ℕ) (s : List ℕ) where
@@ -116,7 +133,7 @@ kind-iff kind size = (λ e. there (eqb kind 0) refl e, ⊎-elim (λ e. rw (eq-eq
 -- ---- verdicts taken apart
 pub and-sound : (v w : Verdict) → andThen v w ≡ Sound → (v ≡ Sound) × (w ≡ Sound)
 and-sound Sound w e = (refl, e)
-and-sound (Breach r i) w e = absurd (let z : _≡_ {A = ℕ} 0 1 = cc in omega arith)
+and-sound (Breach r i c) w e = absurd (let z : _≡_ {A = ℕ} 0 1 = cc in omega arith)
 
 pub breachIf-sound : (bad : Bool) (number : ℕ) (v : Verdict) → breachIf bad number v ≡ Sound → (bad ≡ false) × (v ≡ Sound)
 breachIf-sound true number v e = absurd (let z : _≡_ {A = ℕ} 0 1 = cc in omega arith)
@@ -158,7 +175,7 @@ module _ (leaf emptyOk : Bool) (b : List ℕ) where
       let table = table-good leaf emptyOk b (first .0) in
       let rest = and-sound _ _ (first .1) in
       let good : (i : ℕ) → i < countOf b → (tableEnd leaf b ≤ keyAt leaf b i) × (valueEnd leaf b i ≤ length b) × (kindBadAt leaf b i ≡ false) =
-      λ i l. element-good leaf b i (bad-none-at (elementBad leaf b) 5 (countOf b) 0 (rest .0) i (omega arith) (omega arith)) in
+      λ i l. element-good leaf b i (bad-none-at (elementBad leaf b) noCommon 5 (countOf b) 0 (rest .0) i (omega arith) (omega arith)) in
       record {
         filled = table .0;
         fits = table .1;
@@ -167,7 +184,7 @@ module _ (leaf emptyOk : Bool) (b : List ℕ) where
         kinds = λ i l. good i l .2;
         rising = λ i l.
             let same : i + 1 - 1 ≡ i = omega arith in
-            let o : orderOf (keyOf leaf b (i + 1 - 1)) (keyOf leaf b (i + 1)) ≡ Lower = is-lower _ (not-false _ (bad-none-at (keyBad leaf b) 6 (countOf b - 1) 1 (rest .1) (i + 1) (omega arith) (omega arith))) in
+            let o : orderOf (keyOf leaf b (i + 1 - 1)) (keyOf leaf b (i + 1)) ≡ Lower = is-lower _ (not-false _ (bad-none-at (keyBad leaf b) (commonBefore leaf b) 6 (countOf b - 1) 1 (rest .1) (i + 1) (omega arith) (omega arith))) in
             rw same at o;
       }
 
@@ -176,9 +193,9 @@ module _ (leaf emptyOk : Bool) (b : List ℕ) where
   sound-check s =
       rw (
         good-table leaf emptyOk b (s .filled) (s .fits),
-        none-bad (elementBad leaf b) 5 (countOf b) 0 (λ j l m. good-element leaf b j (s .after j (omega arith)) (s .within j (omega arith)) (s .kinds j (omega arith))),
+        none-bad (elementBad leaf b) noCommon 5 (countOf b) 0 (λ j l m. good-element leaf b j (s .after j (omega arith)) (s .within j (omega arith)) (s .kinds j (omega arith))),
       )
-      (none-bad (keyBad leaf b) 6 (countOf b - 1) 1 (λ j l m. ap (λ (o : Order). not (isLower o)) (before j l (omega arith))))
+      (none-bad (keyBad leaf b) (commonBefore leaf b) 6 (countOf b - 1) 1 (λ j l m. ap (λ (o : Order). not (isLower o)) (before j l (omega arith))))
     where
       before : (j : ℕ) → 1 ≤ j → j < countOf b → orderOf (keyOf leaf b (j - 1)) (keyOf leaf b j) ≡ Lower
       before j l m = let e : j - 1 + 1 ≡ j = omega arith in rw e at (s .rising (j - 1) (omega arith))
@@ -193,18 +210,18 @@ sound-weaker leaf emptyOk b s =
 
 -- ---- the check, a rule at a time
 module _ (leaf emptyOk : Bool) (b : List ℕ) where
-  pub check-table : tableBad leaf emptyOk b ≡ true → checkOf leaf emptyOk b ≡ Breach 4 0
+  pub check-table : tableBad leaf emptyOk b ≡ true → checkOf leaf emptyOk b ≡ Breach 4 0 0
   unfolding checkOf
   check-table e = rw e
 
-  pub check-stops : tableBad leaf emptyOk b ≡ false → (r i : ℕ) → firstBad (elementBad leaf b) 5 (countOf b) 0 ≡ Breach r i → checkOf leaf emptyOk b ≡ Breach r i
+  pub check-stops : tableBad leaf emptyOk b ≡ false → (r i c : ℕ) → firstBad (elementBad leaf b) noCommon 5 (countOf b) 0 ≡ Breach r i c → checkOf leaf emptyOk b ≡ Breach r i c
   unfolding checkOf
-  check-stops t r i e = rw (t, e)
+  check-stops t r i c e = rw (t, e)
 
-  pub check-goes-on : tableBad leaf emptyOk b ≡ false → firstBad (elementBad leaf b) 5 (countOf b) 0 ≡ Sound → checkOf leaf emptyOk b ≡ firstBad (keyBad leaf b) 6 (countOf b - 1) 1
+  pub check-goes-on : tableBad leaf emptyOk b ≡ false → firstBad (elementBad leaf b) noCommon 5 (countOf b) 0 ≡ Sound → checkOf leaf emptyOk b ≡ firstBad (keyBad leaf b) (commonBefore leaf b) 6 (countOf b - 1) 1
   unfolding checkOf
   check-goes-on t e = rw (t, e)
 
 -- rule 6 passed, each key lies in the block
-pub within-all : (leaf : Bool) (b : List ℕ) → firstBad (elementBad leaf b) 5 (countOf b) 0 ≡ Sound → (i : ℕ) → i < countOf b → valueAt leaf b i ≤ length b
-within-all leaf b e i l = let g = element-good leaf b i (bad-none-at (elementBad leaf b) 5 (countOf b) 0 e i (omega arith) (omega arith)) in omega arith
+pub within-all : (leaf : Bool) (b : List ℕ) → firstBad (elementBad leaf b) noCommon 5 (countOf b) 0 ≡ Sound → (i : ℕ) → i < countOf b → valueAt leaf b i ≤ length b
+within-all leaf b e i l = let g = element-good leaf b i (bad-none-at (elementBad leaf b) noCommon 5 (countOf b) 0 e i (omega arith) (omega arith)) in omega arith

@@ -1,4 +1,4 @@
--- 01, "A sound page": rules 4 to 7, and the first breach in 01's order: by rule, and within a rule by element.
+-- 01, "A sound page", as 02's order 2 amends it: rules 4 to 7, and the first breach in 01's order: by rule, and within a rule by element.
 -- All sums are of natural numbers. Assumes nothing.
 use mathlib.Core.Path.{_≡_}
 use mathlib.Core.Bool.{Bool, true, false, not, cond, _&&_, _||_}
@@ -7,7 +7,7 @@ use Prim.Native.Nat.{ℕ, zero, suc, _+_, _-_, _*_, _%_, _≤_, _<_}
 use lib.Dec.{leb, ltb, eqb}
 use lib.ListN.{length, take, drop}
 use Rattle.field.specs.declared.order.Order.the-variants.{Lower}
-use Rattle.field.specs.Order.{orderOf, isLower}
+use Rattle.field.specs.Order.{orderOf, commonOf, isLower}
 use Rattle.field.specs.Sizes.{sizeAllowed}
 use Rattle.page.specs.declared.rules.Verdict.{Verdict}
 use Rattle.page.specs.declared.rules.Verdict.the-variants.{Sound, Breach}
@@ -18,21 +18,25 @@ use Rattle.page.specs.Layout.{idOf, countOf, overflowOf, isBranch, isLea
 -- a later rule is tried only where the earlier one found nothing
 abbrev pub andThen : Verdict → Verdict → Verdict
 andThen Sound v = v
-andThen (Breach number element) v = Breach number element
+andThen (Breach number element common) v = Breach number element common
 
--- an answer after a check: a breach refuses with its number and element, and else the answer stands
-abbrev pub afterCheck : {A : Type 0} → Verdict → (ℕ → ℕ → A) → A → A
+-- an answer after a check: a breach refuses with its number, element and common beginning, and else the answer stands
+abbrev pub afterCheck : {A : Type 0} → Verdict → (ℕ → ℕ → ℕ → A) → A → A
 afterCheck Sound refused answer = answer
-afterCheck (Breach number element) refused answer = refused number element
+afterCheck (Breach number element common) refused answer = refused number element common
 
 -- a breach that names no element, where there is one
 abbrev pub breachIf : Bool → ℕ → Verdict → Verdict
-breachIf bad number v = cond bad (Breach number 0) v
+breachIf bad number v = cond bad (Breach number 0 0) v
 
--- the first of the k elements from i on that is bad, as a breach with this number
-unfoldable pub firstBad : (ℕ → Bool) → ℕ → ℕ → ℕ → Verdict
-firstBad bad number zero i = Sound
-firstBad bad number (suc k) i = cond (bad i) (Breach number i) (firstBad bad number k (i + 1))
+-- the first of the k elements from i on that is bad, as a breach with this number, and with the common beginning that is told of the element
+unfoldable pub firstBad : (ℕ → Bool) → (ℕ → ℕ) → ℕ → ℕ → ℕ → Verdict
+firstBad bad common number zero i = Sound
+firstBad bad common number (suc k) i = cond (bad i) (Breach number i (common i)) (firstBad bad common number k (i + 1))
+
+-- 02, order 2: of a rule that compares no keys, 0
+abbrev pub noCommon : ℕ → ℕ
+noCommon i = 0
 
 -- ---- rule 4, of page q of N, by the bytes that start with it: id differs, type not branch or leaf, or the block passes page N - 1
 unfoldable pub headerBad : ℕ → ℕ → List ℕ → Bool
@@ -66,11 +70,15 @@ elementBad leaf b i = outside (tableEnd leaf b) (length b) (keyAt leaf b i) (val
 unfoldable pub keyBad : Bool → List ℕ → ℕ → Bool
 keyBad leaf b i = not (isLower (orderOf (keyOf leaf b (i - 1)) (keyOf leaf b i)))
 
+-- 02, order 2: its common beginning with the key before it
+abbrev pub commonBefore : Bool → List ℕ → ℕ → ℕ
+commonBefore leaf b i = commonOf (keyOf leaf b (i - 1)) (keyOf leaf b i)
+
 -- ---- rules 5 to 7 of a block
 unfoldable pub checkOf : Bool → Bool → List ℕ → Verdict
 checkOf leaf emptyOk b =
     breachIf (tableBad leaf emptyOk b) 4
-    (andThen (firstBad (elementBad leaf b) 5 (countOf b) 0) (firstBad (keyBad leaf b) 6 (countOf b - 1) 1))
+    (andThen (firstBad (elementBad leaf b) noCommon 5 (countOf b) 0) (firstBad (keyBad leaf b) (commonBefore leaf b) 6 (countOf b - 1) 1))
 
 -- a block that keeps rules 5 to 7
 pub record SoundBlock (leaf emptyOk : Bool) (b : List ℕ) : Type 0 where

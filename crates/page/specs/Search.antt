@@ -41,7 +41,7 @@ indexOf P b key = afterCheck (lentCheckOf P b) indexed.Refused (indexed.At (plac
 unfoldable pub indexPageOf : ℕ → List ℕ → ℕ → Child
 indexPageOf P b i =
     afterCheck (lentCheckOf P b) child.Refused
-    (cond (ltb i (countOf b)) (cond (isLeaf b) (child.Refused 11 0) (child.Page (pageOf b i))) (child.Page 0))
+    (cond (ltb i (countOf b)) (cond (isLeaf b) (child.Refused 11 0 0) (child.Page (pageOf b i))) (child.Page 0))
 
 -- the entry's kind and where its key and value lie
 abbrev pub leafOf : List ℕ → ℕ → Leaf
@@ -51,4 +51,4 @@ leafOf b i = record { kind = kindOf b i; key = keyAt true b i; value = valueAt t
 unfoldable pub heldOf : ℕ → List ℕ → ℕ → Held
 heldOf P b i =
     afterCheck (lentCheckOf P b) held.Refused
-    (cond (isLeaf b) (cond (ltb i (countOf b)) (held.Here (leafOf b i)) held.Nothing) (held.Refused 11 0))
+    (cond (isLeaf b) (cond (ltb i (countOf b)) (held.Here (leafOf b i)) held.Nothing) (held.Refused 11 0 0))

@@ -7,7 +7,7 @@ ghost use Rattle.field.specs.Order.{orderOf};
 ghost use Rattle.page.specs.Layout.{idOf, typeOf, countOf, overflowOf, isLeaf, elementSize, elementAt, pageOf, kindOf, keySize, valueSize, keyAt, valueAt, keyOf};
 use field::Order;
 use field::number::u64_at;
-use field::order::compare;
+use field::order::order_of;
 
 pub const HEADER_SIZE: usize = 32;
 
@@ -127,5 +127,5 @@ pub fn key_order(b: &[u8], leaf: bool, i: usize, other: &[u8]) -> Order
     requires { ⌜ (elementAt leaf i + elementSize leaf ≤ length (now b)) × (valueAt leaf (now b) i ≤ length (now b)) ⌝ }
     ensures { λ r. ⌜ r ≡ orderOf (keyOf leaf (now (b .entry)) i) (now (other .entry)) ⌝ }
 {
-    compare(key(b, leaf, i), other)
+    order_of(key(b, leaf, i), other)
 }

@@ -1,10 +1,12 @@
 // The rules that a sound block keeps, each a function: 01's rules 4 to 7.
 ghost use mathlib.Core.Path.{_≡_};
-ghost use mathlib.Core.Bool.{true, false, not, _||_};
+ghost use mathlib.Core.Bool.{true, false, not, cond, _||_};
 ghost use Prim.Native.Nat.{ℕ, _+_, _-_, _^_, _<_, _≤_};
-ghost use lib.ListN.{length};
-ghost use Rattle.page.specs.Layout.{countOf, isBranch, isLeaf, elementAt, tableEnd, valueAt};
-ghost use Rattle.page.specs.PageRules.{firstBad, headerBad, tableBad, elementBad, keyBad, kindBad, checkOf, lengthBad, lentHeaderBad, lentCheckOf};
+ghost use lib.ListN.{length, take, drop};
+ghost use Rattle.field.specs.Field.{field};
+ghost use Rattle.field.specs.Rising.{alikeUnlessLower};
+ghost use Rattle.page.specs.Layout.{countOf, isBranch, isLeaf, elementSize, elementAt, tableEnd, valueAt};
+ghost use Rattle.page.specs.PageRules.{noCommon, firstBad, headerBad, tableBad, elementBad, keyBad, commonBefore, kindBad, checkOf, lengthBad, lentHeaderBad, lentCheckOf};
 ghost use Rattle.page.specs.PageRules.{outside as outsideOf};
 use super::layout::BRANCH_SIZE;
 use super::layout::HEADER_SIZE;
@@ -14,18 +16,16 @@ use super::layout::TYPE_LEAF;
 use super::layout::count;
 use super::layout::id;
 use super::layout::is_leaf;
-use super::layout::key;
-use super::layout::key_order;
 use super::layout::overflow;
 use super::layout::page_type;
-use field::Order;
 use field::number::u64_at;
+use field::order::alike_unless_lower;
 use field::sizes::size_allowed;
 
-// What a check answers: a breach has 01's number and the element's index, 0 where there is none.
+// What a check answers: a breach has 01's number, the element's index and the length of the common beginning, 0 where there is none.
 pub enum Verdict {
     Sound,
-    Breach(u64, usize),
+    Breach(u64, usize, usize),
 }
 
 // Whether the page is neither a branch nor a leaf.
@@ -151,43 +151,82 @@ fn table_end(leaf: bool, n: usize) -> usize
 // Rule 6: the first element that breaks it.
 fn check_elements(b: &[u8], leaf: bool, n: usize) -> Verdict
     requires { ⌜ (n ≡ countOf (now b)) × (tableEnd leaf (now b) ≤ length (now b)) ⌝ }
-    ensures { λ r. ⌜ r ≡ firstBad (elementBad leaf (now (b .entry))) 5 n 0 ⌝ }
+    ensures { λ r. ⌜ r ≡ firstBad (elementBad leaf (now (b .entry))) noCommon 5 n 0 ⌝ }
 {
     let end = table_end(leaf, n);
     let mut i = 0;
     while i < n {
         if element_bad(b, leaf, end, i) {
-            return Verdict::Breach(5, i);
+            return Verdict::Breach(5, i, 0);
         }
         i += 1;
     }
     Verdict::Sound
 }
 
-// Whether the key of element `i` is not above the one before it, which breaks rule 7.
-fn key_bad(b: &[u8], leaf: bool, i: usize) -> bool
-    requires { ⌜ (1 ≤ i) × (i < countOf (now b)) × (tableEnd leaf (now b) ≤ length (now b))
-        × (valueAt leaf (now b) (i - 1) ≤ length (now b)) × (valueAt leaf (now b) i ≤ length (now b)) ⌝ }
-    ensures { λ r. ⌜ r ≡ keyBad leaf (now (b .entry)) i ⌝ }
+// How far on from an element's start the pos of its key stands; the key's size stands at 24 less that.
+fn pos_place(leaf: bool) -> usize
+    ensures { λ r. ⌜ r ≡ cond leaf 8 16 ⌝ }
 {
-    match key_order(b, leaf, i - 1, key(b, leaf, i)) {
-        Order::Lower => false,
-        Order::Equal => true,
-        Order::Higher => true,
-    }
+    if leaf { 8 } else { 16 }
 }
 
-// Rule 7: the first element whose key is not above the one before it.
+// The size of an element.
+fn element_size(leaf: bool) -> usize
+    ensures { λ r. ⌜ r ≡ elementSize leaf ⌝ }
+{
+    if leaf { LEAF_SIZE } else { BRANCH_SIZE }
+}
+
+// Where the key of the element at `at` starts.
+fn key_start(b: &[u8], at: usize, pos: usize) -> usize
+    requires { ⌜ (at + 24 ≤ length (now b)) × (pos ≤ 16) × (at + field 8 (now b) (at + pos) ≤ length (now b)) ⌝ }
+    ensures { λ r. ⌜ r ≡ at + field 8 (now (b .entry)) (at + pos) ⌝ }
+{
+    at + u64_at(b, at + pos) as usize
+}
+
+// Where the key of the element at `at` ends, which starts at `start`.
+fn key_end(b: &[u8], at: usize, pos: usize, start: usize) -> usize
+    requires { ⌜ (at + 24 ≤ length (now b)) × (8 ≤ pos) × (pos ≤ 16) × (start + field 8 (now b) (at + (24 - pos)) ≤ length (now b)) ⌝ }
+    ensures { λ r. ⌜ r ≡ start + field 8 (now (b .entry)) (at + (24 - pos)) ⌝ }
+{
+    start + u64_at(b, at + (24 - pos)) as usize
+}
+
+// Of the key from `start` to `end` and the next, from `from` to `to`: 0 where they rise, and else one more than the length of their common beginning.
+fn alike(b: &[u8], start: usize, end: usize, from: usize, to: usize) -> usize
+    requires { ⌜ (start ≤ end) × (end ≤ length (now b)) × (from ≤ to) × (to ≤ length (now b)) ⌝ }
+    ensures { λ r. ⌜ r ≡ alikeUnlessLower (take (end - start) (drop start (now (b .entry)))) (take (to - from) (drop from (now (b .entry)))) ⌝ }
+{
+    alike_unless_lower(&b[start..end], &b[from..to])
+}
+
+// Rule 7: the first element whose key is not above the one before it, and how far the two are alike.
 fn check_keys(b: &[u8], leaf: bool, n: usize) -> Verdict
     requires { ⌜ (n ≡ countOf (now b)) × (tableEnd leaf (now b) ≤ length (now b))
         × ((i : ℕ) → i < n → valueAt leaf (now b) i ≤ length (now b)) ⌝ }
-    ensures { λ r. ⌜ r ≡ firstBad (keyBad leaf (now (b .entry))) 6 (n - 1) 1 ⌝ }
+    ensures { λ r. ⌜ r ≡ firstBad (keyBad leaf (now (b .entry))) (commonBefore leaf (now (b .entry))) 6 (n - 1) 1 ⌝ }
 {
+    if n < 2 {
+        return Verdict::Sound;
+    }
+    let stride = element_size(leaf);
+    let pos = pos_place(leaf);
+    let mut at = HEADER_SIZE;
+    let mut start = key_start(b, at, pos);
+    let mut end = key_end(b, at, pos, start);
     let mut i = 1;
     while i < n {
-        if key_bad(b, leaf, i) {
-            return Verdict::Breach(6, i);
+        at += stride;
+        let from = key_start(b, at, pos);
+        let to = key_end(b, at, pos, from);
+        let more = alike(b, start, end, from, to);
+        if 0 < more {
+            return Verdict::Breach(6, i, more - 1);
         }
+        start = from;
+        end = to;
         i += 1;
     }
     Verdict::Sound
@@ -199,11 +238,11 @@ pub fn check(b: &[u8], leaf: bool, empty: bool) -> Verdict
     ensures { λ r. ⌜ r ≡ checkOf leaf empty (now (b .entry)) ⌝ }
 {
     if table_bad(b, leaf, empty) {
-        return Verdict::Breach(4, 0);
+        return Verdict::Breach(4, 0, 0);
     }
     let n = count(b);
     match check_elements(b, leaf, n) {
-        Verdict::Breach(number, i) => Verdict::Breach(number, i),
+        Verdict::Breach(number, i, common) => Verdict::Breach(number, i, common),
         Verdict::Sound => check_keys(b, leaf, n),
     }
 }
@@ -237,10 +276,10 @@ pub fn lent_check(b: &[u8], p: usize) -> Verdict
     ensures { λ r. ⌜ r ≡ lentCheckOf p (now (b .entry)) ⌝ }
 {
     if length_bad(b, p) {
-        return Verdict::Breach(1, 0);
+        return Verdict::Breach(1, 0, 0);
     }
     if lent_header_bad(b, p) {
-        return Verdict::Breach(3, 0);
+        return Verdict::Breach(3, 0, 0);
     }
     let leaf = is_leaf(b);
     check(b, leaf, leaf)

@@ -23,16 +23,16 @@ pub struct Place {
     pub found: bool,
 }
 
-// What `index` answers; a refusal has 01's number and the element.
+// What `index` answers; a refusal has 01's number, the element and the length of the common beginning.
 pub enum Indexed {
     At(Place),
-    Refused(u64, usize),
+    Refused(u64, usize, usize),
 }
 
 // What `index_page` answers.
 pub enum Child {
     Page(usize),
-    Refused(u64, usize),
+    Refused(u64, usize, usize),
 }
 
 // A leaf's entry: its kind, its key from `key` to `value`, and its value from `value` to `end`.
@@ -47,7 +47,7 @@ pub struct Leaf {
 pub enum Held {
     Here(Leaf),
     Nothing,
-    Refused(u64, usize),
+    Refused(u64, usize, usize),
 }
 
 // Where the key is among the `n` of a sound block, by halving.
@@ -91,7 +91,7 @@ pub fn index(b: &[u8], p: usize, key: &[u8]) -> Indexed
     ensures { λ r. ⌜ r ≡ indexOf p (now (b .entry)) (now (key .entry)) ⌝ }
 {
     match lent_check(b, p) {
-        Verdict::Breach(number, i) => Indexed::Refused(number, i),
+        Verdict::Breach(number, i, common) => Indexed::Refused(number, i, common),
         Verdict::Sound => Indexed::At(find(b, is_leaf(b), count(b), key)),
     }
 }
@@ -101,13 +101,13 @@ pub fn index_page(b: &[u8], p: usize, i: usize) -> Child
     ensures { λ r. ⌜ r ≡ indexPageOf p (now (b .entry)) i ⌝ }
 {
     match lent_check(b, p) {
-        Verdict::Breach(number, j) => Child::Refused(number, j),
+        Verdict::Breach(number, j, common) => Child::Refused(number, j, common),
         Verdict::Sound => {
             if count(b) <= i {
                 return Child::Page(0);
             }
             if is_leaf(b) {
-                return Child::Refused(11, 0);
+                return Child::Refused(11, 0, 0);
             }
             Child::Page(child(b, i))
         }
@@ -134,10 +134,10 @@ pub fn entry(b: &[u8], p: usize, i: usize) -> Held
     ensures { λ r. ⌜ r ≡ heldOf p (now (b .entry)) i ⌝ }
 {
     match lent_check(b, p) {
-        Verdict::Breach(number, j) => Held::Refused(number, j),
+        Verdict::Breach(number, j, common) => Held::Refused(number, j, common),
         Verdict::Sound => {
             if !is_leaf(b) {
-                return Held::Refused(11, 0);
+                return Held::Refused(11, 0, 0);
             }
             if count(b) <= i {
                 return Held::Nothing;

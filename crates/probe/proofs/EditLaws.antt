@@ -24,19 +24,19 @@ abbrev pub Told : Bool → ℕ → ℕ → List ℕ → Outcome → List ℕ →
 Told leaf id P out o buffer number exit left =
     (number ≡ toldNumber (editedFields (answer leaf P o)) buffer)
     × (exit ≡ toldAnswer (editedFields (answer leaf P o)) buffer)
-    × (left ≡ lentWith 3 buffer out (output leaf id P out o))
+    × (left ≡ lentWith 4 buffer out (output leaf id P out o))
 
-edited-count : (r : Edited) → length (editedFields r) ≡ 4
+edited-count : (r : Edited) → length (editedFields r) ≡ 5
 edited-count (edited.Written bytes) = refl
-edited-count (edited.Refused number element) = refl
+edited-count (edited.Refused number element common) = refl
 
 module _ (leaf : Bool) (id P : ℕ) (out : List ℕ) (o : Outcome) (buffer : List ℕ) where
-  pub edit-short : length buffer < 24 → Told leaf id P out o buffer 1 buffer out
-  edit-short l = told-short (editedFields (answer leaf P o)) buffer out (output leaf id P out o) 3 (edited-count (answer leaf P o)) l
+  pub edit-short : length buffer < 32 → Told leaf id P out o buffer 1 buffer out
+  edit-short l = told-short (editedFields (answer leaf P o)) buffer out (output leaf id P out o) 4 (edited-count (answer leaf P o)) l
 
-  pub edit-told : {number : ℕ} {exit left : List ℕ} (r : Edited) → 24 ≤ length buffer → Edits leaf id P out o r left
+  pub edit-told : {number : ℕ} {exit left : List ℕ} (r : Edited) → 32 ≤ length buffer → Edits leaf id P out o r left
       → (number ≡ toldNumber (editedFields r) buffer) × (exit ≡ toldAnswer (editedFields r) buffer) → Told leaf id P out o buffer number exit left
-  edit-told r l h t = told-roomy editedFields r (answer leaf P o) buffer out (output leaf id P out o) 3 l (h .answers) (h .leaves) t
+  edit-told r l h t = told-roomy editedFields r (answer leaf P o) buffer out (output leaf id P out o) 4 l (h .answers) (h .leaves) t
 
 -- ---- insert: all kinds above 1 are refused alike, so a kind may be cut to the greatest byte
 bad : (kind size : ℕ) → 2 ≤ kind → kindBad kind size ≡ true
@@ -56,10 +56,10 @@ module _ (P : ℕ) (b key : List ℕ) (kind : ℕ) (value out : List ℕ) where
   insert-kind byte e h = rw (e, insert-cut) at h
 
 -- ---- delete
-pub deleted-count : (r : Deleted) → length (deletedFields r) ≡ 9
+pub deleted-count : (r : Deleted) → length (deletedFields r) ≡ 10
 deleted-count (deleted.Removed bytes e) = refl
-deleted-count (deleted.Refused number element) = refl
+deleted-count (deleted.Refused number element common) = refl
 
 pub deleted-ordered : (P : ℕ) (b : List ℕ) (i : ℕ) (o : Outcome) → DeletedOrdered (deletedAnswer P b i o)
-deleted-ordered P b i (refused number element) = tt
+deleted-ordered P b i (refused number element common) = tt
 deleted-ordered P b i (node es) = (omega arith, omega arith)

@@ -18,8 +18,8 @@ unfolding heldOf
 held-ordered P b i = go (lentCheckOf P b) (isLeaf b) (ltb i (countOf b))
   where
     go : (v : Verdict) (l x : Bool)
-        → HeldOrdered (afterCheck v held.Refused (cond l (cond x (held.Here (leafOf b i)) held.Nothing) (held.Refused 11 0)))
-    go (Breach number element) l x = tt
+        → HeldOrdered (afterCheck v held.Refused (cond l (cond x (held.Here (leafOf b i)) held.Nothing) (held.Refused 11 0 0)))
+    go (Breach number element common) l x = tt
     go Sound false x = tt
     go Sound true false = tt
     go Sound true true = (omega arith, omega arith)

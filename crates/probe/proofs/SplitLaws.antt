@@ -9,10 +9,10 @@ use Rattle.split.specs.declared.Written.the-variants as written
 use Rattle.cuts.specs.Numbers.{partedFields}
 use Rattle.split.specs.Numbers.{writtenFields}
 
-pub parted-count : (r : Parted) → length (partedFields r) ≡ 4
+pub parted-count : (r : Parted) → length (partedFields r) ≡ 5
 parted-count (parted.Cuts made) = refl
-parted-count (parted.Refused number element) = refl
+parted-count (parted.Refused number element common) = refl
 
-pub written-count : (r : Written) → length (writtenFields r) ≡ 5
+pub written-count : (r : Written) → length (writtenFields r) ≡ 6
 written-count (written.Pieces bytes pieces) = refl
-written-count (written.Refused number element) = refl
+written-count (written.Refused number element common) = refl

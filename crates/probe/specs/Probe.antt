@@ -14,9 +14,9 @@ Ordered e = (e .key ≤ e .value) × (e .value ≤ e .end)
 abbrev pub HeldOrdered : Held → Type 0
 HeldOrdered (held.Here e) = Ordered e
 HeldOrdered held.Nothing = Unit {0}
-HeldOrdered (held.Refused number element) = Unit {0}
+HeldOrdered (held.Refused number element common) = Unit {0}
 
 -- one that was removed, if there is one
 abbrev pub DeletedOrdered : Deleted → Type 0
 DeletedOrdered (deleted.Removed bytes e) = Ordered e
-DeletedOrdered (deleted.Refused number element) = Unit {0}
+DeletedOrdered (deleted.Refused number element common) = Unit {0}

@@ -26,16 +26,16 @@ use node::measure::needs_merging;
 use node::measure::size;
 
 // How many fields an edit's answer has, and that of `delete`.
-const EDITED_FIELDS: usize = 3;
+const EDITED_FIELDS: usize = 4;
 
-const DELETED_FIELDS: usize = 8;
+const DELETED_FIELDS: usize = 9;
 
-// The number of a refused size, whose fields are 0 but the element.
-fn tell_unsized(answer: &mut [u8], number: u64, element: usize) -> u64
-    ensures { λ r. ⌜ (r ≡ toldNumber (unsizedFields number element) (now (answer .entry)))
-        × (now (answer .exit) ≡ toldAnswer (unsizedFields number element) (now (answer .entry))) ⌝ }
+// The number of a refused size, whose fields are 0 but the element and the common beginning.
+fn tell_unsized(answer: &mut [u8], number: u64, element: usize, common: usize) -> u64
+    ensures { λ r. ⌜ (r ≡ toldNumber (unsizedFields number element common) (now (answer .entry)))
+        × (now (answer .exit) ≡ toldAnswer (unsizedFields number element common) (now (answer .entry))) ⌝ }
 {
-    let values = [0, 0, 0, 0, element as u64];
+    let values = [0, 0, 0, 0, element as u64, common as u64];
     give(answer, number, &values)
 }
 
@@ -45,11 +45,16 @@ fn tell_sized(answer: &mut [u8], measure: Measure, merging: Merging) -> u64
         × (now (answer .exit) ≡ toldAnswer (sizedFields measure merging) (now (answer .entry))) ⌝ }
 {
     match measure {
-        Measure::Refused(number, element) => tell_unsized(answer, number, element),
+        Measure::Refused(number, element, common) => tell_unsized(answer, number, element, common),
         Measure::Bytes(bytes, pages) => match merging {
-            Merging::Refused(number, element) => tell_unsized(answer, number, element),
+            Merging::Refused(number, element, common) => tell_unsized(
+                answer,
+                number,
+                element,
+                common,
+            ),
             Merging::Wanted(wanted) => {
-                let values = [bytes as u64, pages as u64, flag(wanted), 0, 0];
+                let values = [bytes as u64, pages as u64, flag(wanted), 0, 0, 0];
                 give(answer, 0, &values)
             }
         },
@@ -63,11 +68,11 @@ fn tell_edited(answer: &mut [u8], edited: Edited) -> u64
 {
     match edited {
         Edited::Written(bytes) => {
-            let values = [bytes as u64, 0, 0];
+            let values = [bytes as u64, 0, 0, 0];
             give(answer, 0, &values)
         }
-        Edited::Refused(number, element) => {
-            let values = [0, 0, element as u64];
+        Edited::Refused(number, element, common) => {
+            let values = [0, 0, element as u64, common as u64];
             give(answer, number, &values)
         }
     }
@@ -92,17 +97,18 @@ fn tell_deleted(answer: &mut [u8], deleted: Deleted) -> u64
                 value_length,
                 0,
                 0,
+                0,
             ];
             give(answer, 0, &values)
         }
-        Deleted::Refused(number, element) => {
-            let values = [0, 0, 0, 0, 0, 0, 0, element as u64];
+        Deleted::Refused(number, element, common) => {
+            let values = [0, 0, 0, 0, 0, 0, 0, element as u64, common as u64];
             give(answer, number, &values)
         }
     }
 }
 
-// The number of the answers of `size` and `needs_merging`, whose fields stand in `answer`: size, pages needed, merging wanted, page, element.
+// The number of the answers of `size` and `needs_merging`, whose fields stand in `answer`: size, pages needed, merging wanted, page, element, common.
 #[no_mangle]
 pub extern "C" fn tyvarmos_size(block: &[u8], p: usize, answer: &mut [u8]) -> u64
     ensures { λ r. ⌜ (r ≡ toldNumber (sizedFields (sizeOf p (now (block .entry))) (needsMergingOf p (now (block .entry)))) (now (answer .entry)))
@@ -113,12 +119,12 @@ pub extern "C" fn tyvarmos_size(block: &[u8], p: usize, answer: &mut [u8]) -> u6
     tell_sized(answer, measure, merging)
 }
 
-// The number of `new_leaf`'s answer, whose fields stand in `answer`: bytes written, page, element.
+// The number of `new_leaf`'s answer, whose fields stand in `answer`: bytes written, page, element, common.
 #[no_mangle]
 pub extern "C" fn tyvarmos_new_leaf(p: usize, id: u64, out: &mut [u8], answer: &mut [u8]) -> u64
     ensures { λ r. ⌜ (r ≡ toldNumber (editedFields (editedOf true p (newLeafOf p (now (out .entry))))) (now (answer .entry)))
         × (now (answer .exit) ≡ toldAnswer (editedFields (editedOf true p (newLeafOf p (now (out .entry))))) (now (answer .entry)))
-        × (now (out .exit) ≡ lentWith 3 (now (answer .entry)) (now (out .entry)) (output true id p (now (out .entry)) (newLeafOf p (now (out .entry))))) ⌝ }
+        × (now (out .exit) ≡ lentWith 4 (now (answer .entry)) (now (out .entry)) (output true id p (now (out .entry)) (newLeafOf p (now (out .entry))))) ⌝ }
 {
     if answer.len() / 8 < EDITED_FIELDS {
         return 1;
@@ -127,7 +133,7 @@ pub extern "C" fn tyvarmos_new_leaf(p: usize, id: u64, out: &mut [u8], answer: &
     tell_edited(answer, told)
 }
 
-// The number of `new_branch`'s answer, whose fields stand in `answer`: bytes written, page, element.
+// The number of `new_branch`'s answer, whose fields stand in `answer`: bytes written, page, element, common.
 #[no_mangle]
 pub extern "C" fn tyvarmos_new_branch(
     p: usize,
@@ -139,7 +145,7 @@ pub extern "C" fn tyvarmos_new_branch(
 ) -> u64
     ensures { λ r. ⌜ (r ≡ toldNumber (editedFields (editedOf false p (newBranchOf p (now (key .entry)) child (now (out .entry))))) (now (answer .entry)))
         × (now (answer .exit) ≡ toldAnswer (editedFields (editedOf false p (newBranchOf p (now (key .entry)) child (now (out .entry))))) (now (answer .entry)))
-        × (now (out .exit) ≡ lentWith 3 (now (answer .entry)) (now (out .entry)) (output false id p (now (out .entry)) (newBranchOf p (now (key .entry)) child (now (out .entry))))) ⌝ }
+        × (now (out .exit) ≡ lentWith 4 (now (answer .entry)) (now (out .entry)) (output false id p (now (out .entry)) (newBranchOf p (now (key .entry)) child (now (out .entry))))) ⌝ }
 {
     if answer.len() / 8 < EDITED_FIELDS {
         return 1;
@@ -158,7 +164,7 @@ fn kind_byte(kind: u64) -> u8
     255
 }
 
-// The number of `insert_data`'s answer, whose fields stand in `answer`: bytes written, page, element.
+// The number of `insert_data`'s answer, whose fields stand in `answer`: bytes written, page, element, common.
 #[no_mangle]
 pub extern "C" fn tyvarmos_insert(
     block: &[u8],
@@ -171,7 +177,7 @@ pub extern "C" fn tyvarmos_insert(
 ) -> u64
     ensures { λ r. ⌜ (r ≡ toldNumber (editedFields (editedOf true p (insertOf p (now (block .entry)) (now (key .entry)) kind (now (value .entry)) (now (out .entry))))) (now (answer .entry)))
         × (now (answer .exit) ≡ toldAnswer (editedFields (editedOf true p (insertOf p (now (block .entry)) (now (key .entry)) kind (now (value .entry)) (now (out .entry))))) (now (answer .entry)))
-        × (now (out .exit) ≡ lentWith 3 (now (answer .entry)) (now (out .entry))
+        × (now (out .exit) ≡ lentWith 4 (now (answer .entry)) (now (out .entry))
         (output true (idOf (now (block .entry))) p (now (out .entry)) (insertOf p (now (block .entry)) (now (key .entry)) kind (now (value .entry)) (now (out .entry))))) ⌝ }
 {
     if answer.len() / 8 < EDITED_FIELDS {
@@ -182,7 +188,7 @@ pub extern "C" fn tyvarmos_insert(
 }
 
 // The number of `delete`'s answer, whose fields stand in `answer`: bytes written, then the removed entry's kind, key place, key length,
-// value place and value length in the lent block, then page, element.
+// value place and value length in the lent block, then page, element, common.
 #[no_mangle]
 pub extern "C" fn tyvarmos_delete(
     block: &[u8],
@@ -193,7 +199,7 @@ pub extern "C" fn tyvarmos_delete(
 ) -> u64
     ensures { λ r. ⌜ (r ≡ toldNumber (deletedFields (deletedAnswer p (now (block .entry)) index (deleteOf p (now (block .entry)) index (now (out .entry))))) (now (answer .entry)))
         × (now (answer .exit) ≡ toldAnswer (deletedFields (deletedAnswer p (now (block .entry)) index (deleteOf p (now (block .entry)) index (now (out .entry))))) (now (answer .entry)))
-        × (now (out .exit) ≡ lentWith 8 (now (answer .entry)) (now (out .entry))
+        × (now (out .exit) ≡ lentWith 9 (now (answer .entry)) (now (out .entry))
         (output true (idOf (now (block .entry))) p (now (out .entry)) (deleteOf p (now (block .entry)) index (now (out .entry))))) ⌝ }
 {
     if answer.len() / 8 < DELETED_FIELDS {
@@ -203,7 +209,7 @@ pub extern "C" fn tyvarmos_delete(
     tell_deleted(answer, told)
 }
 
-// The number of `insert_branch`'s answer, whose fields stand in `answer`: bytes written, page, element. It has an original key unless `has` is 0.
+// The number of `insert_branch`'s answer, whose fields stand in `answer`: bytes written, page, element, common. It has an original key unless `has` is 0.
 #[no_mangle]
 pub extern "C" fn tyvarmos_insert_branch(
     block: &[u8],
@@ -219,7 +225,7 @@ pub extern "C" fn tyvarmos_insert_branch(
         (insertBranchOf p (now (block .entry)) (not (eqb has 0)) (now (original .entry)) (now (key .entry)) child (now (out .entry))))) (now (answer .entry)))
         × (now (answer .exit) ≡ toldAnswer (editedFields (editedOf false p
         (insertBranchOf p (now (block .entry)) (not (eqb has 0)) (now (original .entry)) (now (key .entry)) child (now (out .entry))))) (now (answer .entry)))
-        × (now (out .exit) ≡ lentWith 3 (now (answer .entry)) (now (out .entry)) (output false (idOf (now (block .entry))) p (now (out .entry))
+        × (now (out .exit) ≡ lentWith 4 (now (answer .entry)) (now (out .entry)) (output false (idOf (now (block .entry))) p (now (out .entry))
         (insertBranchOf p (now (block .entry)) (not (eqb has 0)) (now (original .entry)) (now (key .entry)) child (now (out .entry))))) ⌝ }
 {
     if answer.len() / 8 < EDITED_FIELDS {

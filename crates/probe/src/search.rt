@@ -14,7 +14,7 @@ use page::search::entry;
 use page::search::index;
 use page::search::index_page;
 
-// The number of `index`'s answer, whose fields stand in `answer`: index, found, page, element.
+// The number of `index`'s answer, whose fields stand in `answer`: index, found, page, element, common.
 #[no_mangle]
 pub extern "C" fn tyvarmos_index(block: &[u8], p: usize, key: &[u8], answer: &mut [u8]) -> u64
     ensures { λ r. ⌜ (r ≡ toldNumber (indexedFields (indexOf p (now (block .entry)) (now (key .entry)))) (now (answer .entry)))
@@ -22,17 +22,17 @@ pub extern "C" fn tyvarmos_index(block: &[u8], p: usize, key: &[u8], answer: &mu
 {
     match index(block, p, key) {
         Indexed::At(place) => {
-            let values = [place.at as u64, flag(place.found), 0, 0];
+            let values = [place.at as u64, flag(place.found), 0, 0, 0];
             give(answer, 0, &values)
         }
-        Indexed::Refused(number, element) => {
-            let values = [0, 0, 0, element as u64];
+        Indexed::Refused(number, element, common) => {
+            let values = [0, 0, 0, element as u64, common as u64];
             give(answer, number, &values)
         }
     }
 }
 
-// The number of `index_page`'s answer, whose fields stand in `answer`: page number, page, element.
+// The number of `index_page`'s answer, whose fields stand in `answer`: page number, page, element, common.
 #[no_mangle]
 pub extern "C" fn tyvarmos_index_page(
     block: &[u8],
@@ -45,11 +45,11 @@ pub extern "C" fn tyvarmos_index_page(
 {
     match index_page(block, p, index) {
         Child::Page(page) => {
-            let values = [page as u64, 0, 0];
+            let values = [page as u64, 0, 0, 0];
             give(answer, 0, &values)
         }
-        Child::Refused(number, element) => {
-            let values = [0, 0, element as u64];
+        Child::Refused(number, element, common) => {
+            let values = [0, 0, element as u64, common as u64];
             give(answer, number, &values)
         }
     }
@@ -74,22 +74,23 @@ fn tell_held(answer: &mut [u8], held: Held) -> u64
                 value_length,
                 0,
                 0,
+                0,
             ];
             give(answer, 0, &values)
         }
         Held::Nothing => {
-            let values = [0, 0, 0, 0, 0, 0, 0, 0];
+            let values = [0; 9];
             give(answer, 0, &values)
         }
-        Held::Refused(number, element) => {
-            let values = [0, 0, 0, 0, 0, 0, 0, element as u64];
+        Held::Refused(number, element, common) => {
+            let values = [0, 0, 0, 0, 0, 0, 0, element as u64, common as u64];
             give(answer, number, &values)
         }
     }
 }
 
 // The number of `entry`'s answer, whose fields stand in `answer`: held, then the entry's kind, key place, key length, value place and value length
-// in the lent block, then page, element.
+// in the lent block, then page, element, common.
 #[no_mangle]
 pub extern "C" fn tyvarmos_entry(block: &[u8], p: usize, index: usize, answer: &mut [u8]) -> u64
     ensures { λ r. ⌜ (r ≡ toldNumber (heldFields (heldOf p (now (block .entry)) index)) (now (answer .entry)))

@@ -29,13 +29,13 @@ use Rattle.shard.proofs.ZeroDone.{zero-told}
 
 judge-told : (j : Judged) (answer : List ℕ) → toldNumber (judgedFields j) answer ≡ 0 → judgedNumber j ≡ 0
 judge-told (judged.Sound entries pages) answer e = refl
-judge-told (judged.Refused f) answer e = zero-told 4 (f .number) answer e
+judge-told (judged.Refused f) answer e = zero-told 5 (f .number) answer e
 
-look-told : (a : Looked) (room : List ℕ) → 48 ≤ length room → lookedNumber a ≡ 0 → toldNumber (lookedFields a) room ≡ 0
+look-told : (a : Looked) (room : List ℕ) → 56 ≤ length room → lookedNumber a ≡ 0 → toldNumber (lookedFields a) room ≡ 0
 unfolding numberWith
-look-told (looked.Found v) room l e = rw (le-ltb (length room) (8 * 6) l)
-look-told looked.Absent room l e = rw (le-ltb (length room) (8 * 6) l)
-look-told (looked.Refused f) room l e = rw (le-ltb (length room) (8 * 6) l) e
+look-told (looked.Found v) room l e = rw (le-ltb (length room) (8 * 7) l)
+look-told looked.Absent room l e = rw (le-ltb (length room) (8 * 7) l)
+look-told (looked.Refused f) room l e = rw (le-ltb (length room) (8 * 7) l) e
 
 module _ (image : List ℕ) (P N root freelist : ℕ) (answer : List ℕ) (zero : toldNumber (judgedFields (judgeOf image P N root freelist)) answer ≡ 0) where
   passes : Passes image P N root freelist
@@ -44,7 +44,7 @@ module _ (image : List ℕ) (P N root freelist : ℕ) (answer : List ℕ) (zero 
   d : Demand3In (λ s. lookupOf s P N root) image P N root
   d = demand3 image P N root freelist passes
 
-  module _ (key : Key) (room : List ℕ) (roomy : 48 ≤ length room) where
+  module _ (key : Key) (room : List ℕ) (roomy : 56 ≤ length room) where
     -- lookup returns 0
     pub never-refused : toldNumber (lookedFields (lookupOf image P N root key)) room ≡ 0
     never-refused = look-told (lookupOf image P N root key) room roomy (lookup-zero image P N root freelist passes key)
@@ -52,20 +52,20 @@ module _ (image : List ℕ) (P N root freelist : ℕ) (answer : List ℕ) (zero 
     -- where some leaf reached from the root holds the key, its answer is 1, and that entry's kind, place and length
     pub found-told : (page i : ℕ) → Holds image P N root key page i
         → toldAnswer (lookedFields (lookupOf image P N root key)) room
-        ≡ fields (1 ∷ valueHeld image P page i .kind ∷ valueHeld image P page i .place ∷ valueHeld image P page i .length ∷ 0 ∷ 0 ∷ []) ++ drop 48 room
+        ≡ fields (1 ∷ valueHeld image P page i .kind ∷ valueHeld image P page i .place ∷ valueHeld image P page i .length ∷ 0 ∷ 0 ∷ 0 ∷ []) ++ drop 56 room
     unfolding answerWith
-    found-told page i h = rw (d .foundIff key (valueHeld image P page i) .1 (page, i, h, refl), le-ltb (length room) (8 * 6) roomy)
+    found-told page i h = rw (d .foundIff key (valueHeld image P page i) .1 (page, i, h, refl), le-ltb (length room) (8 * 7) roomy)
 
     -- the bytes at that place are the entry's value
     pub value-told : (page i : ℕ) → Holds image P N root key page i
         → valueIn image (lookupOf image P N root key) ≡ valueOf true (blockOf image P page) i
     value-told = d .valueShown key
 
-    -- and where none does, its answer is six zeros
+    -- and where none does, its answer is seven zeros
     pub absent-told : ((page i : ℕ) → Holds image P N root key page i → ⊥)
-        → toldAnswer (lookedFields (lookupOf image P N root key)) room ≡ fields (0 ∷ 0 ∷ 0 ∷ 0 ∷ 0 ∷ 0 ∷ []) ++ drop 48 room
+        → toldAnswer (lookedFields (lookupOf image P N root key)) room ≡ fields (0 ∷ 0 ∷ 0 ∷ 0 ∷ 0 ∷ 0 ∷ 0 ∷ []) ++ drop 56 room
     unfolding answerWith
-    absent-told n = rw (d .absentIff key .1 n, le-ltb (length room) (8 * 6) roomy)
+    absent-told n = rw (d .absentIff key .1 n, le-ltb (length room) (8 * 7) roomy)
 
     -- with bytes changed outside the blocks reached, it returns 0 and leaves the same answer
     pub outside-told : (image′ : List ℕ) → SameWithin image image′ P N root

@@ -33,16 +33,16 @@ pub lookup-done : (image : List ℕ) (P N root : ℕ) (key : Key) (answer : List
     → (x : Fault) → lookupOf image P N root key ≡ looked.Refused x → ⊥
 lookup-done image P N root key answer e x h =
     let l = lookup-numbered image P N root key x h in
-    let z : numberWith 6 (x .number) answer ≡ 0 = sym (ap (λ (a : Looked). toldNumber (lookedFields a) answer) h) ∙ e in
-    let o = zero-told 6 (x .number) answer z in
+    let z : numberWith 7 (x .number) answer ≡ 0 = sym (ap (λ (a : Looked). toldNumber (lookedFields a) answer) h) ∙ e in
+    let o = zero-told 7 (x .number) answer z in
     omega arith
 
 pub judge-done : (image : List ℕ) (P N root f : ℕ) (answer : List ℕ) → toldNumber (judgedFields (judgeOf image P N root f)) answer ≡ 0
     → (x : Fault) → judgeOf image P N root f ≡ judged.Refused x → ⊥
 judge-done image P N root f answer e x h =
     let l = judge-numbered image P N root f x h in
-    let z : numberWith 4 (x .number) answer ≡ 0 = sym (ap (λ (a : Judged). toldNumber (judgedFields a) answer) h) ∙ e in
-    let o = zero-told 4 (x .number) answer z in
+    let z : numberWith 5 (x .number) answer ≡ 0 = sym (ap (λ (a : Judged). toldNumber (judgedFields a) answer) h) ∙ e in
+    let o = zero-told 5 (x .number) answer z in
     omega arith
 
 pub meta-done : (image : List ℕ) (p : ℕ) (answer : List ℕ) → toldNumber (newestFields (newestOf image p)) answer ≡ 0

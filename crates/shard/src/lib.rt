@@ -14,7 +14,7 @@ use lookup::lookup;
 use newest::Newest;
 use newest::newest_meta;
 
-// The number of a lookup's answer, whose fields stand in `answer`: found, kind, place, length, page, element.
+// The number of a lookup's answer, whose fields stand in `answer`: found, kind, place, length, page, element, common.
 #[no_mangle]
 pub extern "C" fn tyvarmos_lookup(
     image: &[u8],
@@ -29,21 +29,21 @@ pub extern "C" fn tyvarmos_lookup(
 {
     match lookup(image, p, n, root, key) {
         Looked::Found(v) => {
-            let values = [1, wide(v.kind), v.place as u64, v.length as u64, 0, 0];
+            let values = [1, wide(v.kind), v.place as u64, v.length as u64, 0, 0, 0];
             give(answer, 0, &values)
         }
         Looked::Absent => {
-            let values = [0; 6];
+            let values = [0; 7];
             give(answer, 0, &values)
         }
         Looked::Refused(f) => {
-            let values = [0, 0, 0, 0, f.page as u64, f.element as u64];
+            let values = [0, 0, 0, 0, f.page as u64, f.element as u64, f.common as u64];
             give(answer, f.number, &values)
         }
     }
 }
 
-// The number of the judge's answer, whose fields stand in `answer`: entries, pages, page, element.
+// The number of the judge's answer, whose fields stand in `answer`: entries, pages, page, element, common.
 #[no_mangle]
 pub extern "C" fn tyvarmos_judge(
     image: &[u8],
@@ -58,11 +58,11 @@ pub extern "C" fn tyvarmos_judge(
 {
     match judge(image, p, n, root, freelist) {
         Judged::Sound(entries, pages) => {
-            let values = [entries as u64, pages as u64, 0, 0];
+            let values = [entries as u64, pages as u64, 0, 0, 0];
             give(answer, 0, &values)
         }
         Judged::Refused(f) => {
-            let values = [0, 0, f.page as u64, f.element as u64];
+            let values = [0, 0, f.page as u64, f.element as u64, f.common as u64];
             give(answer, f.number, &values)
         }
     }

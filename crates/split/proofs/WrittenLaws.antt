@@ -31,11 +31,11 @@ and-no true y e = e
 and-no false y e = refl
 
 module _ (leaf : Bool) (P N size : ℕ) (pieces : List (List Entry)) (pages : List ℕ) (room : ℕ) where
-  pub written-count : (length pages ≡ length pieces → ⊥) → Refused 11 0 ≡ writtenOf leaf P N size pieces pages room
+  pub written-count : (length pages ≡ length pieces → ⊥) → Refused 11 0 0 ≡ writtenOf leaf P N size pieces pages room
   written-count h = rw (ne-eqb (length pages) (length (spansOf leaf P pieces)) (λ e. h (e ∙ length-spans leaf P pieces)))
 
   module _ (small : N ≤ 32768) where
-    pub written-unplaced : placed N pages (cappedSpans leaf P pieces) ≡ false → Refused 11 0 ≡ writtenOf leaf P N size pieces pages room
+    pub written-unplaced : placed N pages (cappedSpans leaf P pieces) ≡ false → Refused 11 0 0 ≡ writtenOf leaf P N size pieces pages room
     written-unplaced h =
         let f : placed N pages (spansOf leaf P pieces) ≡ false = sym (placed-counted leaf P N small pages pieces) ∙ h in
         let bad : listGood N pages (spansOf leaf P pieces) ≡ false = and-no (eqb (length pages) (length (spansOf leaf P pieces))) _ f in
@@ -48,10 +48,10 @@ module _ (leaf : Bool) (P N size : ℕ) (pieces : List (List Entry)) (pages : Li
       pub bytes-exact : bytesIn P (cappedSpans leaf P pieces) ≡ bytesIn P (spansOf leaf P pieces)
       bytes-exact = ap (bytesIn P) (counted-exact leaf P N small pages pieces same h)
 
-      pub written-large : nodeLimit < size → Refused 15 0 ≡ writtenOf leaf P N size pieces pages room
+      pub written-large : nodeLimit < size → Refused 15 0 0 ≡ writtenOf leaf P N size pieces pages room
       written-large l = rw (good, lt-ltb nodeLimit size l)
 
-      pub written-short : size ≤ nodeLimit → leb (bytesIn P (cappedSpans leaf P pieces)) room ≡ false → Refused 10 0 ≡ writtenOf leaf P N size pieces pages room
+      pub written-short : size ≤ nodeLimit → leb (bytesIn P (cappedSpans leaf P pieces)) room ≡ false → Refused 10 0 0 ≡ writtenOf leaf P N size pieces pages room
       written-short l k =
           let f = leb-false (bytesIn P (cappedSpans leaf P pieces)) room k in
           let e = bytes-exact in
@@ -69,15 +69,15 @@ module _ (leaf : Bool) (P N size : ℕ) (pieces : List (List Entry)) (pages : Li
 
 -- ---- where pieces were written, each test was passed
 module _ {bytes count : ℕ} where
-  count-passed : (good : Bool) (a : Written) → cond good a (Refused 1 0) ≡ Pieces bytes count → (good ≡ true) × (a ≡ Pieces bytes count)
+  count-passed : (good : Bool) (a : Written) → cond good a (Refused 1 0 0) ≡ Pieces bytes count → (good ≡ true) × (a ≡ Pieces bytes count)
   count-passed true a e = (refl, e)
   count-passed false a e = absurd (let z : _≡_ {A = ℕ} 0 1 = cc in omega arith)
 
   check-passed : (v : Verdict) (a : Written) → afterCheck v Refused a ≡ Pieces bytes count → (v ≡ Sound) × (a ≡ Pieces bytes count)
   check-passed Sound a e = (refl, e)
-  check-passed (Breach n i) a e = absurd (let z : _≡_ {A = ℕ} 0 1 = cc in omega arith)
+  check-passed (Breach n i common) a e = absurd (let z : _≡_ {A = ℕ} 0 1 = cc in omega arith)
 
-  room-passed : (large short : Bool) (m n : ℕ) → cond large (Refused 15 0) (cond short (Refused 10 0) (Pieces m n)) ≡ Pieces bytes count → n ≡ count
+  room-passed : (large short : Bool) (m n : ℕ) → cond large (Refused 15 0 0) (cond short (Refused 10 0 0) (Pieces m n)) ≡ Pieces bytes count → n ≡ count
   room-passed true short m n e = absurd (let z : _≡_ {A = ℕ} 0 1 = cc in omega arith)
   room-passed false true m n e = absurd (let z : _≡_ {A = ℕ} 0 1 = cc in omega arith)
   room-passed false false m n e = cc

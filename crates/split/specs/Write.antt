@@ -54,7 +54,7 @@ packAll leaf P (q ∷ qs) (e ∷ es) = pack leaf q e P ++ packAll leaf P qs es
 -- a wrong list 11, then a node that is too large 15, then an output that is too short 10, else how many bytes and pieces are written
 abbrev pub writtenIf : Bool → ℕ → ℕ → ℕ → ℕ → Written
 writtenIf good size bytes room count =
-    cond good (cond (ltb nodeLimit size) (Refused 15 0) (cond (ltb room bytes) (Refused 10 0) (Pieces bytes count))) (Refused 11 0)
+    cond good (cond (ltb nodeLimit size) (Refused 15 0 0) (cond (ltb room bytes) (Refused 10 0 0) (Pieces bytes count))) (Refused 11 0 0)
 
 -- of a node of this size with these pieces
 abbrev pub writtenOf : Bool → ℕ → ℕ → ℕ → List (List Entry) → List ℕ → ℕ → Written
@@ -70,12 +70,12 @@ unfoldable pub splitWriteOf : ℕ → ℕ → List ℕ → List ℕ → ℕ → 
 splitWriteOf P N b pages room =
     cond (countAllowed N)
     (afterCheck (lentCheckOf P b) Refused (writtenOf (isLeaf b) P N (nodeSize (isLeaf b) (entriesOf (isLeaf b) b)) (blockPieces P b) pages room))
-    (Refused 1 0)
+    (Refused 1 0 0)
 
 -- the output afterwards: the packed pieces, then its old rest; a refusal changes nothing
 abbrev pub outLeft : Written → List ℕ → List ℕ → List ℕ
 outLeft (Pieces bytes count) made old = made ++ drop bytes old
-outLeft (Refused number element) made old = old
+outLeft (Refused number element common) made old = old
 
 -- ---- as the code counts pages: no further than one past the most that an image has
 abbrev pub cappedSpans : Bool → ℕ → List (List Entry) → List ℕ

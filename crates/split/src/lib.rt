@@ -35,10 +35,10 @@ const PAGES_PAST: usize = 32769;
 
 const BYTES_PAST: usize = 2147483649;
 
-// What `split_write` answers: how many bytes and pieces it wrote, or a refusal with 01's number and the element.
+// What `split_write` answers: how many bytes and pieces it wrote, or a refusal with 01's number, the element and the length of a common beginning.
 pub enum Written {
     Pieces(usize, usize),
-    Refused(u64, usize),
+    Refused(u64, usize, usize),
 }
 
 // Where the piece from entry `c` on ends.
@@ -245,16 +245,16 @@ fn write_sound(b: &[u8], leaf: bool, p: usize, n: usize, pages: &[u64], out: &mu
     let end = run_end(b, leaf, p, size);
     let pieces = count_cuts(b, leaf, t, end) + 1;
     if pages.len() != pieces {
-        return Written::Refused(11, 0);
+        return Written::Refused(11, 0, 0);
     }
     if !all_placed(b, leaf, p, t, end, n, pages) {
-        return Written::Refused(11, 0);
+        return Written::Refused(11, 0, 0);
     }
     if NODE_LIMIT < size {
-        return Written::Refused(15, 0);
+        return Written::Refused(15, 0, 0);
     }
     if !fits(b, leaf, p, t, end, pieces, out.len()) {
-        return Written::Refused(10, 0);
+        return Written::Refused(10, 0, 0);
     }
     let bytes = write_pieces(b, leaf, p, t, end, pages, out);
     Written::Pieces(bytes, pieces)
@@ -266,10 +266,10 @@ pub fn split_write(b: &[u8], p: usize, n: usize, pages: &[u64], out: &mut [u8]) 
         × (now (out .exit) ≡ outLeft r (packAll (isLeaf (now (b .entry))) p (now (pages .entry)) (blockPieces p (now (b .entry)))) (now (out .entry))) ⌝ }
 {
     if !count_allowed(n) {
-        return Written::Refused(1, 0);
+        return Written::Refused(1, 0, 0);
     }
     match lent_check(b, p) {
-        Verdict::Breach(number, i) => Written::Refused(number, i),
+        Verdict::Breach(number, i, common) => Written::Refused(number, i, common),
         Verdict::Sound => write_sound(b, is_leaf(b), p, n, pages, out),
     }
 }

@@ -100,7 +100,7 @@ module _ (image : List ℕ) (P N root f : ℕ) (passes : Passes image P N root f
     where
       go : (v : View Value) → view q (h .reached .top) ≡ v
           → (es : List (Item Value)) × (view q (h .reached .top) ≡ leaf es) × LeafBlock image P N q (h .reached .top) es
-      go (bad r e) g = absurd (reached-seen image P N root sound q (h .reached) r e g)
+      go (bad r e c) g = absurd (reached-seen image P N root sound q (h .reached) r e c g)
       go (branch cs) g =
           absurd (let a = view-branch image P N q (h .reached .top) cs g .kind in let b = h .isALeaf in let z : _≡_ {A = ℕ} 0 1 = cc in omega arith)
       go (leaf es) g = (es, g, view-leaf image P N q (h .reached .top) es g)
@@ -123,7 +123,7 @@ module _ (image : List ℕ) (P N root f : ℕ) (passes : Passes image P N root f
   never-refused key x e = go (lookup N view 16 true root key) refl (sym (looks key) ∙ e)
     where
       go : (a : Answer Value) → lookup N view 16 true root key ≡ a → lookedOf a ≡ Refused x → ⊥
-      go (refused r q i) h g = tree.never-refused N (pagesOf image P N) view (checked image P N) root (passes .entries) (p .visited) (p .walked) key r q i h
+      go (refused r q i c) h g = tree.never-refused N (pagesOf image P N) view (checked image P N) root (passes .entries) (p .visited) (p .walked) key r q i c h
       go (found y q i) h g = let z : _≡_ {A = ℕ} 0 1 = cc in omega arith
       go absent h g = let z : _≡_ {A = ℕ} 0 1 = cc in omega arith
 
@@ -134,7 +134,7 @@ module _ (image : List ℕ) (P N root f : ℕ) (passes : Passes image P N root f
     where
       there : (a : Answer Value) → lookup N view 16 true root key ≡ a → lookedOf a ≡ Found v
           → (page : ℕ) × (i : ℕ) × Holds image P N root key page i × (v ≡ valueHeld image P page i)
-      there (refused r q i) h g = absurd (let z : _≡_ {A = ℕ} 0 1 = cc in omega arith)
+      there (refused r q i c) h g = absurd (let z : _≡_ {A = ℕ} 0 1 = cc in omega arith)
       there (found y q i) h g =
           let x = tree.found-iff N (pagesOf image P N) view (checked image P N) root (passes .entries) (p .visited) (p .walked) key y q i .0 h in
           let w = entry-holds q i y (x .0) in
@@ -152,7 +152,7 @@ module _ (image : List ℕ) (P N root f : ℕ) (passes : Passes image P N root f
   absent-iff key = (λ e. there (lookup N view 16 true root key) refl (sym (looks key) ∙ e), back)
     where
       there : (a : Answer Value) → lookup N view 16 true root key ≡ a → lookedOf a ≡ Absent → (page i : ℕ) → Holds image P N root key page i → ⊥
-      there (refused r q i) h g page j x = let z : _≡_ {A = ℕ} 0 1 = cc in omega arith
+      there (refused r q i c) h g page j x = let z : _≡_ {A = ℕ} 0 1 = cc in omega arith
       there (found y q i) h g page j x = let z : _≡_ {A = ℕ} 0 1 = cc in omega arith
       there absent h g page j x =
           tree.absent-iff N (pagesOf image P N) view (checked image P N) root (passes .entries) (p .visited) (p .walked) key .0 h page j
@@ -183,7 +183,7 @@ module _ (image : List ℕ) (P N root f : ℕ) (passes : Passes image P N root f
           → lookup N view 16 true root key ≡ seekFrom es key page 0
           → lookedOf a ≡ Found v
           → (i : ℕ) × Holds image P N root key page i × (v ≡ valueHeld image P page i)
-      there page es v (refused r q i) h s g = absurd (let z : _≡_ {A = ℕ} 0 1 = cc in omega arith)
+      there page es v (refused r q i c) h s g = absurd (let z : _≡_ {A = ℕ} 0 1 = cc in omega arith)
       there page es v (found y q i) h s g =
           let x = tree.found-iff N (pagesOf image P N) view (checked image P N) root (passes .entries) (p .visited) (p .walked) key y q i .0 h in
           let w = entry-holds q i y (x .0) in
@@ -216,7 +216,7 @@ module _ (image : List ℕ) (P N root f : ℕ) (passes : Passes image P N root f
   unfolding lookupOf geometryBad
   outside-free image′ same key =
       rw (same .sameLength)
-      (ap (λ (a : Answer Value). cond (geometryBad image P N) (Refused (faultAt 1 0 0)) (lookedOf a))
+      (ap (λ (a : Answer Value). cond (geometryBad image P N) (Refused (faultAt 1 0 0 0)) (lookedOf a))
       (tree.lookup-framed N view (viewOf image′ P N) root
       (λ q s r. same-view image P N q (ends q r) (p .sizes .holds) image′ (p .sizes .leastSize) (same .sameLength) (λ k. same .sameBytes q k r) s)
       key))

@@ -13,7 +13,7 @@ use lib.ListN.{length, drop}
 use Rattle.page.specs.declared.rules.Verdict.{Verdict}
 use Rattle.page.specs.declared.rules.Verdict.the-variants as verdict
 use Rattle.page.specs.Layout.{idOf, typeOf, countOf, overflowOf}
-use Rattle.page.specs.PageRules.{firstBad, blockOf}
+use Rattle.page.specs.PageRules.{noCommon, firstBad, blockOf}
 use Rattle.page.proofs.RuleLaws.{none-bad, bad-none-at, and-sound, breachIf-sound}
 use Rattle.page.proofs.TestLaws.{and-both, or-neither}
 use Rattle.walk.specs.Tree.{pass, fault, walk, inside, memb, firstIn, Verdict as Walk}
@@ -67,15 +67,15 @@ module _ {n k : ℕ} where
 
   ids-passed : (v : Verdict) (f m l : ℕ) → judgedOf v f m l ≡ Sound n k → (v ≡ verdict.Sound) × (m ≡ n) × (k ≡ l)
   ids-passed verdict.Sound f m l e = (refl, cc, cc)
-  ids-passed (verdict.Breach r i) f m l e = absurd (let z : _≡_ {A = ℕ} 0 1 = cc in omega arith)
+  ids-passed (verdict.Breach r i c) f m l e = absurd (let z : _≡_ {A = ℕ} 0 1 = cc in omega arith)
 
 module _ (image : List ℕ) (P N root f n k : ℕ) where
   list-passed : (m : ℕ) (vs : List ℕ) → freelistOf image P N f m vs ≡ Sound n k
       → Listed image P N f vs × (m ≡ n) × (k ≡ length (pagesAt image P f ++ vs))
   unfolding freelistOf
   list-passed m vs e =
-      let i = cond-passed (not (inside N f)) (faultAt 2 f 0) _ e in
-      let h = cond-passed (freeHeaderBad N f (drop (f * P) image)) (faultAt 3 f 0) _ (i .1) in
+      let i = cond-passed (not (inside N f)) (faultAt 2 f 0 0) _ e in
+      let h = cond-passed (freeHeaderBad N f (drop (f * P) image)) (faultAt 3 f 0 0) _ (i .1) in
       let o = twice-passed (firstIn (pagesAt image P f) vs) _ (h .1) in
       let v = ids-passed (idsOf N (pagesAt image P f ++ vs) (blockOf image P f)) f m (length (pagesAt image P f ++ vs)) (o .1) in
       (record { bounds = not-false _ (i .0); header = h .0; apart = o .0; ids = v .0 }, v .1, v .2)
@@ -87,7 +87,7 @@ module _ (image : List ℕ) (P N root f n k : ℕ) where
   pub judge-passed : judgeOf image P N root f ≡ Sound n k → Passed image P N root f n k
   unfolding judgeOf
   judge-passed e =
-      let g = cond-passed (geometryBad image P N) (faultAt 1 0 0) _ e in
+      let g = cond-passed (geometryBad image P N) (faultAt 1 0 0 0) _ e in
       go (geometry-sizes image P N (g .0)) (walk N (pagesOf image P N) (viewOf image P N) 16 true root [] none []) refl (g .1)
     where
       go : SoundSizes image P N → (w : Walk) → walk N (pagesOf image P N) (viewOf image P N) 16 true root [] none [] ≡ w
@@ -95,7 +95,7 @@ module _ (image : List ℕ) (P N root f n k : ℕ) where
       go s (pass m vs) q h =
           let x = list-passed m vs h in
           record { sizes = s; visited = vs; walked = q ∙ ap (λ (i : ℕ). pass i vs) (x .1); listed = x .0; pages = x .2 }
-      go s (fault r p i) q h = absurd (let z : _≡_ {A = ℕ} 0 1 = cc in omega arith)
+      go s (fault r p i c) q h = absurd (let z : _≡_ {A = ℕ} 0 1 = cc in omega arith)
 
   pub passed-judge : Passed image P N root f n k → judgeOf image P N root f ≡ Sound n k
   unfolding judgeOf
@@ -136,9 +136,9 @@ module _ (image : List ℕ) (P N root n : ℕ) (vs : List ℕ) (walked : walk N 
           apart = none-first (pagesAt image P f) vs (λ k e. refute (memb k vs) (λ v. t .apart k (block-iff image P f k .0 e) (visited-iff k .0 v)));
           ids =
               rw (le-ltb (length b) (32 + 8 * countOf b) (t .table))
-              (rw (none-bad (idOutside N b) 5 (countOf b) 0 (λ j l m. ap not (inside-of (idAt b j) (t .idFrom2 j (omega arith)) (t .idBelowN j (omega arith)))))
-              (rw (none-bad (idNotAbove b) 6 (countOf b - 1) 1 (λ j l m. ap not (before j l (omega arith))))
-              (none-bad (idMarked (pagesAt image P f ++ vs) b) 8 (countOf b) 0
+              (rw (none-bad (idOutside N b) noCommon 5 (countOf b) 0 (λ j l m. ap not (inside-of (idAt b j) (t .idFrom2 j (omega arith)) (t .idBelowN j (omega arith)))))
+              (rw (none-bad (idNotAbove b) noCommon 6 (countOf b - 1) 1 (λ j l m. ap not (before j l (omega arith))))
+              (none-bad (idMarked (pagesAt image P f ++ vs) b) noCommon 8 (countOf b) 0
               (λ j l m.
               memb-neither (idAt b j) (pagesAt image P f) vs
               (refute (memb (idAt b j) (pagesAt image P f)) (λ e. t .notOwn j (omega arith) (block-iff image P f (idAt b j) .0 e)))
@@ -157,13 +157,13 @@ module _ (image : List ℕ) (P N root n : ℕ) (vs : List ℕ) (walked : walk N 
         let h0 = or-neither (not (eqb (idOf s) f)) _ (x .header) in
         let h1 = or-neither (not (eqb (typeOf s) 4)) (leb N (f + overflowOf s)) (h0 .1) in
         let u4 = breachIf-sound (ltb (length b) (32 + 8 * countOf b)) 4 _ (x .ids) in
-        let a5 = and-sound (firstBad (idOutside N b) 5 (countOf b) 0) _ (u4 .1) in
-        let a6 = and-sound (firstBad (idNotAbove b) 6 (countOf b - 1) 1) (firstBad (idMarked (pagesAt image P f ++ vs) b) 8 (countOf b) 0) (a5 .1) in
+        let a5 = and-sound (firstBad (idOutside N b) noCommon 5 (countOf b) 0) _ (u4 .1) in
+        let a6 = and-sound (firstBad (idNotAbove b) noCommon 6 (countOf b - 1) 1) (firstBad (idMarked (pagesAt image P f ++ vs) b) noCommon 8 (countOf b) 0) (a5 .1) in
         let w = within f (x .bounds) in
         let id-in : (i : ℕ) → i < countOf b → (2 ≤ idAt b i) × (idAt b i < N) =
-        λ i l. within (idAt b i) (not-false _ (bad-none-at (idOutside N b) 5 (countOf b) 0 (a5 .0) i (omega arith) (omega arith))) in
+        λ i l. within (idAt b i) (not-false _ (bad-none-at (idOutside N b) noCommon 5 (countOf b) 0 (a5 .0) i (omega arith) (omega arith))) in
         let unmarked : (i : ℕ) → i < countOf b → memb (idAt b i) (pagesAt image P f ++ vs) ≡ false =
-        λ i l. bad-none-at (idMarked (pagesAt image P f ++ vs) b) 8 (countOf b) 0 (a6 .1) i (omega arith) (omega arith) in
+        λ i l. bad-none-at (idMarked (pagesAt image P f ++ vs) b) noCommon 8 (countOf b) 0 (a6 .1) i (omega arith) (omega arith) in
         record {
           from2 = w .0;
           belowN = w .1;
@@ -176,7 +176,7 @@ module _ (image : List ℕ) (P N root n : ℕ) (vs : List ℕ) (walked : walk N 
           idBelowN = λ i l. id-in i l .1;
           rising = λ i l.
               let j : i + 1 - 1 ≡ i = omega arith in
-              let r : ltb (idAt b (i + 1 - 1)) (idAt b (i + 1)) ≡ true = not-false _ (bad-none-at (idNotAbove b) 6 (countOf b - 1) 1 (a6 .0) (i + 1) (omega arith) (omega arith)) in
+              let r : ltb (idAt b (i + 1 - 1)) (idAt b (i + 1)) ≡ true = not-false _ (bad-none-at (idNotAbove b) noCommon 6 (countOf b - 1) 1 (a6 .0) (i + 1) (omega arith) (omega arith)) in
               ltb-true _ _ (rw j at r);
           unused = λ i l u. clash (memb (idAt b i) (pagesAt image P f ++ vs)) (memb-right (idAt b i) (pagesAt image P f) vs (visited-iff (idAt b i) .1 u)) (unmarked i l);
           notOwn = λ i l o. clash (memb (idAt b i) (pagesAt image P f ++ vs)) (memb-left (idAt b i) (pagesAt image P f) vs (block-iff image P f (idAt b i) .1 o)) (unmarked i l);

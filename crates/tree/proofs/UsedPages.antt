@@ -26,7 +26,7 @@ block-iff image P q k = (
 )
 
 module _ (image : List ℕ) (P N root : ℕ) (sound : Sound (viewOf image P N) (pagesOf image P N) N 16 root true [] none) where
-  pub reached-seen : (q : ℕ) (x : ReachedFrom image P N root q) (r e : ℕ) → viewOf image P N q (x .top) ≡ bad r e → ⊥
+  pub reached-seen : (q : ℕ) (x : ReachedFrom image P N root q) (r e c : ℕ) → viewOf image P N q (x .top) ≡ bad r e c → ⊥
   reached-seen q x =
       let w = below-way (viewOf image P N) [] none (x .way) in
       sound .each (w .0) q (x .top) (w .1) (w .2) (w .3) .seen

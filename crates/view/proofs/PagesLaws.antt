@@ -69,13 +69,13 @@ module _ (image : List ℕ) (P N q : ℕ) where
       go false = pages-distinct q (overflowOf (drop (q * P) image) + 1)
 
   -- a page that is not refused has a sound header, and so all pages of its block
-  pub view-header : (top : Bool) → ((r e : ℕ) → viewOf image P N q top ≡ bad r e → ⊥) → headerBad N q (drop (q * P) image) ≡ false
+  pub view-header : (top : Bool) → ((r e c : ℕ) → viewOf image P N q top ≡ bad r e c → ⊥) → headerBad N q (drop (q * P) image) ≡ false
   view-header top f = go (viewOf image P N q top) refl
     where
       go : (v : View Value) → viewOf image P N q top ≡ v → headerBad N q (drop (q * P) image) ≡ false
-      go (bad r e) h = absurd (f r e h)
+      go (bad r e c) h = absurd (f r e c h)
       go (branch cs) h = view-branch image P N q top cs h .header
       go (leaf es) h = view-leaf image P N q top es h .header
 
-  pub view-pages : (top : Bool) → ((r e : ℕ) → viewOf image P N q top ≡ bad r e → ⊥) → pagesOf image P N q ≡ pagesAt image P q
+  pub view-pages : (top : Bool) → ((r e c : ℕ) → viewOf image P N q top ≡ bad r e c → ⊥) → pagesOf image P N q ≡ pagesAt image P q
   view-pages top f = pages-good (view-header top f)

@@ -80,20 +80,20 @@ module _ (image : List ℕ) (P N q : ℕ) (top : Bool) where
       → (l ≡ false) × (SoundBlock false false s) × (cs ≡ row (childItem s) (countOf s) 0)
   block-branch start cs s true i Sound c e = absurd (let z : _≡_ {A = ℕ} 0 1 = cc in omega arith)
   block-branch start cs s false i Sound c e = (refl, sound-iff false false s .0 (rw (and-false top) at c), cc)
-  block-branch start cs s l i (Breach r x) c e = absurd (let z : _≡_ {A = ℕ} 0 1 = cc in omega arith)
+  block-branch start cs s l i (Breach r x m) c e = absurd (let z : _≡_ {A = ℕ} 0 1 = cc in omega arith)
 
   block-leaf : (start : ℕ) (es : List (Item Value)) (s : List ℕ) (l : Bool) → isLeaf s ≡ l → (v : Verdict) → checkOf l (top && l) s ≡ v
       → afterCheck v bad (elementsView l start s) ≡ leaf es
       → (l ≡ true) × (SoundBlock true top s) × (es ≡ row (valueItem start s) (countOf s) 0)
   block-leaf start es s false i Sound c e = absurd (let z : _≡_ {A = ℕ} 0 1 = cc in omega arith)
   block-leaf start es s true i Sound c e = (refl, sound-iff true top s .0 (rw (and-true top) at c), cc)
-  block-leaf start es s l i (Breach r x) c e = absurd (let z : _≡_ {A = ℕ} 0 1 = cc in omega arith)
+  block-leaf start es s l i (Breach r x m) c e = absurd (let z : _≡_ {A = ℕ} 0 1 = cc in omega arith)
 
   pub view-branch : (cs : List (Item ℕ)) → viewOf image P N q top ≡ branch cs → BranchBlock image P N q cs
   unfolding viewOf blockView
   view-branch cs e = go (headerBad N q (drop (q * P) image)) refl e
     where
-      go : (t : Bool) → headerBad N q (drop (q * P) image) ≡ t → cond t (bad 3 0) (blockView (q * P) top b) ≡ branch cs → BranchBlock image P N q cs
+      go : (t : Bool) → headerBad N q (drop (q * P) image) ≡ t → cond t (bad 3 0 0) (blockView (q * P) top b) ≡ branch cs → BranchBlock image P N q cs
       go true h f = absurd (let z : _≡_ {A = ℕ} 0 1 = cc in omega arith)
       go false h f =
           let x = block-branch (q * P) cs b (isLeaf b) refl (checkOf (isLeaf b) (top && isLeaf b) b) refl f in
@@ -103,21 +103,21 @@ module _ (image : List ℕ) (P N q : ℕ) (top : Bool) where
   unfolding viewOf blockView
   view-leaf es e = go (headerBad N q (drop (q * P) image)) refl e
     where
-      go : (t : Bool) → headerBad N q (drop (q * P) image) ≡ t → cond t (bad 3 0) (blockView (q * P) top b) ≡ leaf es → LeafBlock image P N q top es
+      go : (t : Bool) → headerBad N q (drop (q * P) image) ≡ t → cond t (bad 3 0 0) (blockView (q * P) top b) ≡ leaf es → LeafBlock image P N q top es
       go true h f = absurd (let z : _≡_ {A = ℕ} 0 1 = cc in omega arith)
       go false h f =
           let x = block-leaf (q * P) es b (isLeaf b) refl (checkOf (isLeaf b) (top && isLeaf b) b) refl f in
           record { header = h; kind = x .0; sound = x .1; items = x .2 }
 
   -- ---- and put together
-  pub bad-header : headerBad N q (drop (q * P) image) ≡ true → viewOf image P N q top ≡ bad 3 0
+  pub bad-header : headerBad N q (drop (q * P) image) ≡ true → viewOf image P N q top ≡ bad 3 0 0
   unfolding viewOf
   bad-header h = rw h
 
   module _ (s : List ℕ) (is : s ≡ blockOf image P q) (header : headerBad N q (drop (q * P) image) ≡ false) where
-    bad-block : (r e : ℕ) → checkOf (isLeaf b) (top && isLeaf b) b ≡ Breach r e → viewOf image P N q top ≡ bad r e
+    bad-block : (r e m : ℕ) → checkOf (isLeaf b) (top && isLeaf b) b ≡ Breach r e m → viewOf image P N q top ≡ bad r e m
     unfolding viewOf blockView
-    bad-block r e c = rw (header, c)
+    bad-block r e m c = rw (header, c)
 
     good-block : checkOf (isLeaf b) (top && isLeaf b) b ≡ Sound → viewOf image P N q top ≡ elementsView (isLeaf b) (q * P) b
     unfolding viewOf blockView
@@ -129,11 +129,11 @@ module _ (image : List ℕ) (P N q : ℕ) (top : Bool) where
     branch-check : (v : Verdict) → isLeaf s ≡ false → checkOf false false s ≡ v → checkOf (isLeaf b) (top && isLeaf b) b ≡ v
     branch-check v l c = let k : isLeaf b ≡ false = rw is at l in rw (k, and-false top) (rw is at c)
 
-    pub leaf-bad : (r e : ℕ) → isLeaf s ≡ true → checkOf true top s ≡ Breach r e → viewOf image P N q top ≡ bad r e
-    leaf-bad r e l c = bad-block r e (leaf-check (Breach r e) l c)
+    pub leaf-bad : (r e m : ℕ) → isLeaf s ≡ true → checkOf true top s ≡ Breach r e m → viewOf image P N q top ≡ bad r e m
+    leaf-bad r e m l c = bad-block r e m (leaf-check (Breach r e m) l c)
 
-    pub branch-bad : (r e : ℕ) → isLeaf s ≡ false → checkOf false false s ≡ Breach r e → viewOf image P N q top ≡ bad r e
-    branch-bad r e l c = bad-block r e (branch-check (Breach r e) l c)
+    pub branch-bad : (r e m : ℕ) → isLeaf s ≡ false → checkOf false false s ≡ Breach r e m → viewOf image P N q top ≡ bad r e m
+    branch-bad r e m l c = bad-block r e m (branch-check (Breach r e m) l c)
 
     pub leaf-good : isLeaf s ≡ true → checkOf true top s ≡ Sound → viewOf image P N q top ≡ leaf (row (valueItem (q * P) s) (countOf s) 0)
     leaf-good l c =

@@ -1,5 +1,5 @@
--- A page of an image, as the walk and the lookup view it: refused with a number and an element, a branch's separators with their children,
--- or a leaf's keys, each with what lookup tells of its entry; and the pages that its block takes up.
+-- A page of an image, as the walk and the lookup view it: refused with a number, an element and the length of a common beginning, a branch's
+-- separators with their children, or a leaf's keys, each with what lookup tells of its entry; and the pages that its block takes up.
 -- Assumes nothing.
 use mathlib.Core.Bool.{Bool, true, false, not, cond, _&&_}
 use mathlib.Core.List.{List, [], _∷_}
@@ -35,7 +35,7 @@ blockView start top b = afterCheck (checkOf (isLeaf b) (top && isLeaf b) b) bad 
 
 -- ---- page q of an image, as the root or not: rule 4, then its block
 unfoldable pub viewOf : List ℕ → ℕ → ℕ → ℕ → Bool → View Value
-viewOf image P N q top = cond (headerBad N q (drop (q * P) image)) (bad 3 0) (blockView (q * P) top (blockOf image P q))
+viewOf image P N q top = cond (headerBad N q (drop (q * P) image)) (bad 3 0 0) (blockView (q * P) top (blockOf image P q))
 
 -- ---- the pages of a block
 -- the k pages from q on

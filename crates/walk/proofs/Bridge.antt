@@ -6,7 +6,7 @@ use mathlib.Core.Path.{_≡_, refl, ap, _∙_}
 use mathlib.Core.List.{List, [], _∷_}
 use mathlib.Core.Bool.{true, false}
 use mathlib.Core.Option.{Option, none, some}
-use Rattle.walk.specs.Tree.{Key, lower, under, inRange, Item, keys, At, Rising, firstOut, next, found, absent, childFor, seekFrom}
+use Rattle.walk.specs.Tree.{Key, lower, under, inRange, commonCrossed, Item, keys, At, Rising, stray, firstOut, next, found, absent, childFor, seekFrom}
 use Rattle.walk.proofs.KeyLaws.{lower-chain, lower-one-way, weak-chain, same-self, not-same, lower-not-same, rising-tail}
 use Rattle.walk.specs.Sound.{ChildAt}
 
@@ -71,13 +71,13 @@ pub first-out : (low : Key) (high : Option Key) (ks : List Key) (k i : ℕ) (x :
     → ((j : ℕ) (y : Key) → j < i → At ks j y → inRange low high y ≡ true)
     → At ks i x
     → inRange low high x ≡ false
-    → firstOut low high ks k ≡ some (i + k)
+    → firstOut low high ks k ≡ some (stray (i + k) (commonCrossed low high x))
 unfolding firstOut
 first-out low high [] k i x f a h = absurd a
 first-out low high (y ∷ ys) k zero x f a h =
     let u : inRange low high y ≡ false = rw a h in
     let z : 0 + k ≡ k = omega arith in
-    rw (u, z)
+    rw (u, z, a)
 first-out low high (y ∷ ys) k (suc i) x f a h =
     let u = f 0 y (omega arith) refl in
     let z : suc i + k ≡ i + suc k = omega arith in

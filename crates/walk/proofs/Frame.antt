@@ -37,7 +37,7 @@ all-frame (c ∷ cs) walker walker′ h high n vs =
         → ((m : ℕ) (ws : List ℕ) → walkAll walker′ cs high (n + m) ws ≡ walkAll walker cs high (n + m) ws)
         → ifPassed v (λ m ws. walkAll walker′ cs high (n + m) ws) ≡ ifPassed v (λ m ws. walkAll walker cs high (n + m) ws)
     go (pass m ws) r = r m ws
-    go (fault r p e) q = refl
+    go (fault r p e c) q = refl
 
 module _ {P : Type 0} (view : ℕ → Bool → View P) where
   -- Q holds of each page reached from p, as it is viewed there
@@ -59,7 +59,7 @@ module _ {P : Type 0} (N : ℕ) (view view′ : ℕ → Bool → View P) where
   unfolding lookup lookPage childFor
   lookup-frame zero t p key h = refl
   lookup-frame (suc d) t p key h =
-      ap (λ (a : Answer P). cond (inside N p) a (refused 2 p 0))
+      ap (λ (a : Answer P). cond (inside N p) a (refused 2 p 0 0))
       (ap (λ (v : View P). lookPage (λ q. lookup N view′ d false q key) v p key) (h 1 p t here) ∙ go (view p t) refl (λ q g. lookup-frame d false q key g))
     where
       zeroth : (k : ℕ) → lookup N view′ k false 0 key ≡ lookup N view k false 0 key
@@ -70,7 +70,7 @@ module _ {P : Type 0} (N : ℕ) (view view′ : ℕ → Bool → View P) where
           → view p t ≡ v
           → ((q : ℕ) → Throughout view Agree q false → lookup N view′ d false q key ≡ lookup N view d false q key)
           → lookPage (λ q. lookup N view′ d false q key) v p key ≡ lookPage (λ q. lookup N view d false q key) v p key
-      go (bad r e) f ih = refl
+      go (bad r e c) f ih = refl
       go (leaf es) f ih = refl
       go (branch cs) f ih =
           ⊎-elim
@@ -89,7 +89,7 @@ module _ {P : Type 0} (N : ℕ) (block block′ : ℕ → List ℕ) (view view�
   walk-frame zero t p low high vs h = refl
   walk-frame (suc d) t p low high vs h =
       rw (h 1 p t here .1)
-      (ap (λ (v : Verdict). cond (inside N p) (unlessTwice (firstIn (block p) vs) v) (fault 2 p 0))
+      (ap (λ (v : Verdict). cond (inside N p) (unlessTwice (firstIn (block p) vs) v) (fault 2 p 0 0))
       (ap (λ (v : View P). walkPage (walk N block′ view′ d false) v p low high (block p ++ vs)) (h 1 p t here .0)
       ∙ go (view p t) refl (λ q a b c g. walk-frame d false q a b c g)))
     where
@@ -99,7 +99,7 @@ module _ {P : Type 0} (N : ℕ) (block block′ : ℕ → List ℕ) (view view�
           → Throughout view AgreeAll q false
           → walk N block′ view′ d false q a b c ≡ walk N block view d false q a b c)
           → walkPage (walk N block′ view′ d false) v p low high (block p ++ vs) ≡ walkPage (walk N block view d false) v p low high (block p ++ vs)
-      go (bad r e) f ih = refl
+      go (bad r e c) f ih = refl
       go (leaf es) f ih = refl
       go (branch cs) f ih =
           ap (unlessOut (firstOut low high (keys cs) 0) p)

@@ -6,7 +6,7 @@ use mathlib.Core.Path.{_≡_, refl, sym, _∙_}
 use mathlib.Core.List.{List, [], _∷_, _++_}
 use mathlib.Core.Bool.{Bool, true, false, cond}
 use mathlib.Core.Option.{Option, none, some}
-use Rattle.walk.specs.Tree.{Every, Key, lower, same, under, inRange, Item, View, branch, leaf, keys, Rising, inside, firstOut, next, Answer, childFor, lookPage, lookup, Checked}
+use Rattle.walk.specs.Tree.{Every, Key, lower, same, under, inRange, commonCrossed, Item, View, branch, leaf, keys, Rising, inside, stray, firstOut, next, Answer, childFor, lookPage, lookup, Checked}
 use Rattle.walk.proofs.KeyLaws.{range-low, range-high, range-both, weak-chain, high-chain, under-chain, under-next, under-open, under-past, under-some, rising-tail, lower-not-same, higher-not-same}
 use Rattle.walk.specs.Listing.{Slot, keyAt, Sorted}
 use Rattle.walk.proofs.Slots.{every-map, every-append, slots, seek, seek-slots, seek-past, seek-within, slots-sorted, sorted-append}
@@ -23,7 +23,7 @@ all-in low high (k ∷ ks) i e = go (inRange low high k) refl e (all-in low high
   where
     go : (b : Bool)
         → inRange low high k ≡ b
-        → cond b (firstOut low high ks (suc i)) (some i) ≡ none
+        → cond b (firstOut low high ks (suc i)) (some (stray i (commonCrossed low high k))) ≡ none
         → (firstOut low high ks (suc i) ≡ none → Every (In low high) ks)
         → Every (In low high) (k ∷ ks)
     go true q f rest = (q, rest f)

@@ -130,7 +130,7 @@ module _ {P : Type 0} (N : ℕ) (block : ℕ → List ℕ) (view : ℕ → Bool 
           depth = omega arith;
           from2 = inside-from p i;
           belowN = inside-below p i;
-          seen = λ r e h. let z : _≡_ {A = ℕ} 0 1 = cc in omega arith;
+          seen = λ r e c h. let z : _≡_ {A = ℕ} 0 1 = cc in omega arith;
           ranged = rw f (all-in low high (keys es) 0 o);
         })
     fits (atBranch {d = d} {t = t} {p = p} {low = low} {high = high} {cs = cs} i m f o g) w =
@@ -139,7 +139,7 @@ module _ {P : Type 0} (N : ℕ) (block : ℕ → List ℕ) (view : ℕ → Bool 
           depth = omega arith;
           from2 = inside-from p i;
           belowN = inside-below p i;
-          seen = λ r e h. let z : _≡_ {A = ℕ} 0 1 = cc in omega arith;
+          seen = λ r e c h. let z : _≡_ {A = ℕ} 0 1 = cc in omega arith;
           ranged = rw f (all-in low high (keys cs) 0 o);
         })
         (λ k c end js x v. let y = fits-all k c end g x v in
@@ -309,7 +309,7 @@ module _ {P : Type 0} (N : ℕ) (block : ℕ → List ℕ) (view : ℕ → Bool 
       → view p t ≡ v
       → (n : ℕ) × (ws : List ℕ) × (walkPage (walk N block view d false) v p low high (block p ++ vs) ≡ pass n ws)
   unfolding walkPage
-  goes-page d t p low high vs ih sound avoids (bad r e) f = absurd (sound .each [] p t low high stop .seen r e f)
+  goes-page d t p low high vs ih sound avoids (bad r e c) f = absurd (sound .each [] p t low high stop .seen r e c f)
   goes-page d t p low high vs ih sound avoids (leaf es) f =
       let o = none-out low high (keys es) 0 (rw f at (sound .each [] p t low high stop .ranged)) in
       (length es, block p ++ vs, rw o)

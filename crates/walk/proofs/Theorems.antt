@@ -53,10 +53,10 @@ module _ {P : Type 0}
     lands key = landed N block view checked key (how .1)
 
     -- T1
-    pub never-refused : (key : Key) (r p e : ℕ) → lookup N view 16 true root key ≡ refused r p e → ⊥
-    never-refused key r p e = go (lookup N view 16 true root key) (answer key)
+    pub never-refused : (key : Key) (r p e c : ℕ) → lookup N view 16 true root key ≡ refused r p e c → ⊥
+    never-refused key r p e c = go (lookup N view 16 true root key) (answer key)
       where
-        go : (a : Answer P) → Sought (listing .all) key a → a ≡ refused r p e → ⊥
+        go : (a : Answer P) → Sought (listing .all) key a → a ≡ refused r p e c → ⊥
         go a (hit s m k) q = let z : _≡_ {A = ℕ} 0 1 = cc in omega arith
         go a (miss f) q = let z : _≡_ {A = ℕ} 0 1 = cc in omega arith
 

@@ -7,7 +7,7 @@ use mathlib.Core.List.{List, [], _∷_, _++_}
 use mathlib.Core.Bool.{Bool, true, false, cond}
 use mathlib.Core.Option.{Option, none, some}
 use lib.ListN.{length, length-append}
-use Rattle.walk.specs.Tree.{Key, Item, View, bad, branch, leaf, keys, firstIn, inside, Verdict, pass, fault, ifPassed, firstOut, unlessTwice, unlessOut, next, walkAll, walkPage, walk}
+use Rattle.walk.specs.Tree.{Key, Item, View, bad, branch, leaf, keys, firstIn, inside, Verdict, pass, fault, ifPassed, Stray, firstOut, unlessTwice, unlessOut, next, walkAll, walkPage, walk}
 use Rattle.walk.specs.Listing.{Slot}
 use Rattle.walk.proofs.Slots.{slots, length-slots}
 
@@ -69,7 +69,7 @@ module _ {P : Type 0} (N : ℕ) (block : ℕ → List ℕ) (view : ℕ → Bool 
           let a = ih (c .value) (c .key) (next cs high) vs k us f in
           let b = rest k us g in
           (a .0 ++ b .0, more (a .1) (b .1) refl, (let x = a .2 in let y = b .2 in omega (arith, length-append (a .0) (b .0))))
-      go (fault r p i) f g rest = absurd (let z : _≡_ {A = ℕ} 0 1 = cc in omega arith)
+      go (fault r p i c) f g rest = absurd (let z : _≡_ {A = ℕ} 0 1 = cc in omega arith)
 
   walked-page : (d : ℕ) (t : Bool)
       → Passed d false
@@ -81,10 +81,10 @@ module _ {P : Type 0} (N : ℕ) (block : ℕ → List ℕ) (view : ℕ → Bool 
       → walkPage (walk N block view d false) v p low high (block p ++ vs) ≡ pass n ws
       → (L : List (Slot P)) × Walked (suc d) t p low high vs L ws × (n ≡ length L)
   unfolding walkPage
-  walked-page d t ih p low high vs n ws i m (bad r x) f e = absurd (let z : _≡_ {A = ℕ} 0 1 = cc in omega arith)
+  walked-page d t ih p low high vs n ws i m (bad r x c) f e = absurd (let z : _≡_ {A = ℕ} 0 1 = cc in omega arith)
   walked-page d t ih p low high vs n ws i m (branch cs) f e = go (firstOut low high (keys cs) 0) refl e
     where
-      go : (o : Option ℕ)
+      go : (o : Option Stray)
           → firstOut low high (keys cs) 0 ≡ o
           → unlessOut o p (walkAll (walk N block view d false) cs high 0 (block p ++ vs)) ≡ pass n ws
           → (L : List (Slot P)) × Walked (suc d) t p low high vs L ws × (n ≡ length L)
@@ -94,7 +94,7 @@ module _ {P : Type 0} (N : ℕ) (block : ℕ → List ℕ) (view : ℕ → Bool 
       go (some j) o e = absurd (let z : _≡_ {A = ℕ} 0 1 = cc in omega arith)
   walked-page d t ih p low high vs n ws i m (leaf es) f e = go (firstOut low high (keys es) 0) refl e
     where
-      go : (o : Option ℕ)
+      go : (o : Option Stray)
           → firstOut low high (keys es) 0 ≡ o
           → unlessOut o p (pass (length es) (block p ++ vs)) ≡ pass n ws
           → (L : List (Slot P)) × Walked (suc d) t p low high vs L ws × (n ≡ length L)
@@ -113,7 +113,7 @@ module _ {P : Type 0} (N : ℕ) (block : ℕ → List ℕ) (view : ℕ → Bool 
           → inside N p ≡ b
           → (u : Option ℕ)
           → firstIn (block p) vs ≡ u
-          → cond b (unlessTwice u (walkPage (walk N block view d false) (view p t) p low high (block p ++ vs))) (fault 2 p 0) ≡ pass n ws
+          → cond b (unlessTwice u (walkPage (walk N block view d false) (view p t) p low high (block p ++ vs))) (fault 2 p 0 0) ≡ pass n ws
           → Passed d false
           → (L : List (Slot P)) × Walked (suc d) t p low high vs L ws × (n ≡ length L)
       go true i none m f ih = walked-page d t ih p low high vs n ws i m (view p t) refl f

@@ -14,7 +14,7 @@ ChildAt (x ∷ xs) high zero c end = (x ≡ c) × (next xs high ≡ end)
 ChildAt (x ∷ xs) high (suc i) c end = ChildAt xs high i c end
 
 abbrev pub keysOn : {P : Type 0} → View P → List Key
-keysOn (bad r e) = []
+keysOn (bad r e c) = []
 keysOn (branch cs) = keys cs
 keysOn (leaf es) = keys es
 
@@ -32,7 +32,7 @@ module _ {P : Type 0} (view : ℕ → Bool → View P) where
     pub depth : length is < d
     pub from2 : 2 ≤ q
     pub belowN : q < N
-    pub seen : (r e : ℕ) → view q s ≡ bad r e → ⊥
+    pub seen : (r e c : ℕ) → view q s ≡ bad r e c → ⊥
     pub ranged : Every (λ k. inRange low high k ≡ true) (keysOn (view q s))
 
   -- page p, with its range, is the root of a sound tree of at most d levels; `block` tells the pages of a page's block

@@ -7,7 +7,7 @@ use mathlib.Core.Bool.{Bool, true, false, not, _&&_, _||_, cond}
 use mathlib.Core.Option.{Option, none, some}
 use lib.Dec.{leb, ltb, eqb}
 use lib.ListN.{length}
-use Rattle.field.specs.Order.{orderOf, isLower, isEqual}
+use Rattle.field.specs.Order.{orderOf, commonOf, isLower, isEqual}
 
 -- ---- keys
 abbrev pub Key : Type 0
@@ -28,14 +28,23 @@ under k (some h) = lower k h
 abbrev pub inRange : Key → Option Key → Key → Bool
 inRange low high k = not (lower k low) && under k high
 
+-- the length of the common beginning of a key and a range's high end, 0 where that is missing
+abbrev pub commonWith : Key → Option Key → ℕ
+commonWith k none = 0
+commonWith k (some h) = commonOf k h
+
+-- 02, order 2: the length of the common beginning of a key out of its range and the end that it crosses: the low end where it is below that, and else the high end
+abbrev pub commonCrossed : Key → Option Key → Key → ℕ
+commonCrossed low high k = cond (lower k low) (commonOf k low) (commonWith k high)
+
 -- ---- what stands on a page
 pub record Item (A : Type 0) : Type 0 where
   pub key : Key
   pub value : A
 
--- a page that is refused, with the number and the element; a branch's separators, each with the page of its child; a leaf's entries
+-- a page that is refused, with the number, the element and the length of the common beginning; a branch's separators, each with the page of its child; a leaf's entries
 pub data View (P : Type 0) : Type 0 where
-  bad : ℕ → ℕ → View P
+  bad : ℕ → ℕ → ℕ → View P
   branch : List (Item ℕ) → View P
   leaf : List (Item P) → View P
 
@@ -80,29 +89,37 @@ abbrev pub inside : ℕ → ℕ → Bool
 inside N p = leb 2 p && ltb p N
 
 -- ---- the judge
--- how many entries and the pages of the blocks visited, or a breach's number, page and element
+-- how many entries and the pages of the blocks visited, or a breach's number, page, element and length of the common beginning
 pub data Verdict : Type 0 where
   pass : ℕ → List ℕ → Verdict
-  fault : ℕ → ℕ → ℕ → Verdict
+  fault : ℕ → ℕ → ℕ → ℕ → Verdict
 
 abbrev pub ifPassed : Verdict → (ℕ → List ℕ → Verdict) → Verdict
 ifPassed (pass n vs) k = k n vs
-ifPassed (fault r p e) k = fault r p e
+ifPassed (fault r p e c) k = fault r p e c
 
--- the index of the first key out of range, counted from i
-unfoldable pub firstOut : Key → Option Key → List Key → ℕ → Option ℕ
+-- a key out of range: its index, and the length of the common beginning of it and the end that it crosses
+pub record Stray : Type 0 where
+  pub index : ℕ
+  pub common : ℕ
+
+abbrev pub stray : ℕ → ℕ → Stray
+stray index common = record { index = index; common = common }
+
+-- the first key out of range, counted from i
+unfoldable pub firstOut : Key → Option Key → List Key → ℕ → Option Stray
 firstOut low high [] i = none
-firstOut low high (k ∷ ks) i = cond (inRange low high k) (firstOut low high ks (suc i)) (some i)
+firstOut low high (k ∷ ks) i = cond (inRange low high k) (firstOut low high ks (suc i)) (some (stray i (commonCrossed low high k)))
 
 -- rule 3, whose number is 8 and which names the lowest page that was visited before, and then the verdict
 abbrev pub unlessTwice : Option ℕ → Verdict → Verdict
 unlessTwice none v = v
-unlessTwice (some page) v = fault 8 page 0
+unlessTwice (some page) v = fault 8 page 0 0
 
 -- rule 8, whose number is 7, and then the verdict
-abbrev pub unlessOut : Option ℕ → ℕ → Verdict → Verdict
+abbrev pub unlessOut : Option Stray → ℕ → Verdict → Verdict
 unlessOut none page v = v
-unlessOut (some i) page v = fault 7 page i
+unlessOut (some x) page v = fault 7 page (x .index) (x .common)
 
 -- a range's high end: the next child's separator, and for the last child the branch's own high end
 abbrev pub next : List (Item ℕ) → Option Key → Option Key
@@ -119,13 +136,13 @@ walkAll go [] high n vs = pass n vs
 walkAll go (c ∷ cs) high n vs = ifPassed (go (c .value) (c .key) (next cs high) vs) (λ m ws. walkAll go cs high (n + m) ws)
 
 unfoldable pub walkPage : {P : Type 0} → Walker → View P → ℕ → Key → Option Key → List ℕ → Verdict
-walkPage go (bad r e) page low high vs = fault r page e
+walkPage go (bad r e c) page low high vs = fault r page e c
 walkPage go (branch cs) page low high vs = unlessOut (firstOut low high (keys cs) 0) page (walkAll go cs high 0 vs)
 walkPage go (leaf es) page low high vs = unlessOut (firstOut low high (keys es) 0) page (pass (length es) vs)
 
 -- ---- the search
 pub data Answer (P : Type 0) : Type 0 where
-  refused : ℕ → ℕ → ℕ → Answer P
+  refused : ℕ → ℕ → ℕ → ℕ → Answer P
   found : Item P → ℕ → ℕ → Answer P
   absent : Answer P
 
@@ -140,7 +157,7 @@ seekFrom [] key page i = absent
 seekFrom (e ∷ es) key page i = cond (same (e .key) key) (found e page i) (seekFrom es key page (suc i))
 
 unfoldable pub lookPage : {P : Type 0} → (ℕ → Answer P) → View P → ℕ → Key → Answer P
-lookPage go (bad r e) page key = refused r page e
+lookPage go (bad r e c) page key = refused r page e c
 lookPage go (branch cs) page key = go (childFor cs key)
 lookPage go (leaf es) page key = seekFrom es key page 0
 
@@ -149,16 +166,16 @@ lookPage go (leaf es) page key = seekFrom es key page 0
 -- the lowest. Rules 4 to 7 are the view's; a page that rule 4 refuses has no block, so rule 3 finds nothing there and the view refuses it
 module _ {P : Type 0} (N : ℕ) (block : ℕ → List ℕ) (view : ℕ → Bool → View P) where
   unfoldable pub walk : ℕ → Bool → ℕ → Key → Option Key → List ℕ → Verdict
-  walk zero top page low high vs = fault 9 page 0
+  walk zero top page low high vs = fault 9 page 0 0
   walk (suc d) top page low high vs =
       cond (inside N page)
       (unlessTwice (firstIn (block page) vs) (walkPage (walk d false) (view page top) page low high (block page ++ vs)))
-      (fault 2 page 0)
+      (fault 2 page 0 0)
 
 module _ {P : Type 0} (N : ℕ) (view : ℕ → Bool → View P) where
   unfoldable pub lookup : ℕ → Bool → ℕ → Key → Answer P
-  lookup zero top page key = refused 9 page 0
-  lookup (suc d) top page key = cond (inside N page) (lookPage (λ p. lookup d false p key) (view page top) page key) (refused 2 page 0)
+  lookup zero top page key = refused 9 page 0 0
+  lookup (suc d) top page key = cond (inside N page) (lookPage (λ p. lookup d false p key) (view page top) page key) (refused 2 page 0 0)
 
 module _ {P : Type 0} (view : ℕ → Bool → View P) where
   -- page q, viewed as the root or not, is on this level below page p, which is on level 1

@@ -70,9 +70,9 @@ impl<'a> Image<'a> {
     ///
     /// The first breach on the way: the sizes, or a rule that a page met does not keep.
     pub fn lookup(&self, key: &[u8]) -> Result<Option<Entry<'a>>, Fault> {
-        let (number, [found, kind, place, length, page, element]) = raw::lookup(self.bytes, &self.tree, key);
+        let (number, [found, kind, place, length, named @ ..]) = raw::lookup(self.bytes, &self.tree, key);
         if number != 0 {
-            return Err(self.fault(number, page, element));
+            return Err(self.fault(number, named));
         }
         let kind = if kind == 0 { Kind::Data } else { Kind::Bucket };
         let (place, length) = (place as usize, length as usize);
@@ -97,10 +97,10 @@ impl<'a> Image<'a> {
     /// The first breach, in the order of the walk: a page before its children, child 0 and all below it before child 1,
     /// the freelist page last.
     pub fn judge(self) -> Result<Sound<'a>, Fault> {
-        let (number, [entries, pages, page, element]) = raw::judge(self.bytes, &self.tree);
+        let (number, [entries, pages, named @ ..]) = raw::judge(self.bytes, &self.tree);
         match number {
             0 => Ok(Sound { image: self, entries, pages }),
-            _ => Err(self.fault(number, page, element)),
+            _ => Err(self.fault(number, named)),
         }
     }
 
@@ -113,9 +113,9 @@ impl<'a> Image<'a> {
         self.tree.geometry(self.bytes.len() as u64)
     }
 
-    /// The fault that a C function answered about this image.
-    fn fault(&self, number: u64, page: u64, element: u64) -> Fault {
-        let fault = Fault::answered(number, page, element);
+    /// The fault that a C function answered about this image, with the page, element and common beginning that it names.
+    fn fault(&self, number: u64, [page, element, common]: [u64; 3]) -> Fault {
+        let fault = Fault::answered(number, page, element).with_common(common);
         match fault.number {
             Number::Geometry => self.geometry().map_or_else(Fault::from, |()| fault),
             Number::ReachedTwice if self.is_free_id(page, element) => Fault::at_element(fault.number, page, element),

@@ -25,21 +25,21 @@ extern "C" {
 /// A call's number and the fields that it wrote.
 pub(crate) type Answer<const FIELDS: usize> = (u64, [u64; FIELDS]);
 
-/// The number; found, kind, place, length, page, element.
-pub(crate) fn lookup(image: &[u8], tree: &Tree, key: &[u8]) -> Answer<6> {
+/// The number; found, kind, place, length, page, element, common.
+pub(crate) fn lookup(image: &[u8], tree: &Tree, key: &[u8]) -> Answer<7> {
     let (start, length) = (image.as_ptr(), image.len());
     let Tree { page_size, page_count, root_page, .. } = *tree;
-    // SAFETY: both slices are lent for reading, and the answer buffer has room for the six fields.
+    // SAFETY: both slices are lent for reading, and the answer buffer has room for the seven fields.
     ask(|answer, room| unsafe {
         tyvarmos_lookup(start, length, page_size, page_count, root_page, key.as_ptr(), key.len(), answer, room)
     })
 }
 
-/// The number; entries, pages, page, element.
-pub(crate) fn judge(image: &[u8], tree: &Tree) -> Answer<4> {
+/// The number; entries, pages, page, element, common.
+pub(crate) fn judge(image: &[u8], tree: &Tree) -> Answer<5> {
     let (start, length) = (image.as_ptr(), image.len());
     let Tree { page_size, page_count, root_page, freelist_page } = *tree;
-    // SAFETY: the image is lent for reading, and the answer buffer has room for the four fields.
+    // SAFETY: the image is lent for reading, and the answer buffer has room for the five fields.
     ask(|answer, room| unsafe {
         tyvarmos_judge(start, length, page_size, page_count, root_page, freelist_page, answer, room)
     })

@@ -47,7 +47,7 @@ fn again(mut call: impl FnMut() -> u64) -> impl FnMut() {
 fn index(table: &mut Table, leaf: &Content, block: &[u8]) {
     let by_crate = Blocks::new(block, P, 1);
     let key = &leaf.items[11].key;
-    let ours = || Proved.index(black_box(block), P, key, &mut [0; 32]);
+    let ours = || Proved.index(black_box(block), P, key, &mut [0; 40]);
     let call = "index, the whole block checked first";
     table.race(
         race(call, "the crate's index, which checks nothing", None),
@@ -64,13 +64,13 @@ fn edits(table: &mut Table, leaf: &Content, block: &[u8]) {
     let new = Leaf { key: &entry.key, kind: 0, value: &entry.value };
     table.race(
         race("insert, node read and written", "from_page, insert_data, write_node", Some(2.0)),
-        again(|| Proved.insert(black_box(block), P, new, &mut out, &mut [0; 24])),
+        again(|| Proved.insert(black_box(block), P, new, &mut out, &mut [0; 32])),
         again(|| by_crate.insert(black_box(&entry))),
     );
     let last = leaf.items.len() as u64 / 2;
     table.race(
         race("delete, node read and written", "from_page, delete, write_node", Some(2.0)),
-        again(|| Proved.delete(black_box(block), P, last, &mut out, &mut [0; 64])),
+        again(|| Proved.delete(black_box(block), P, last, &mut out, &mut [0; 72])),
         again(|| by_crate.delete(black_box(last as usize))),
     );
 }
@@ -82,7 +82,7 @@ fn insert_branch(table: &mut Table, branch: &Content, block: &[u8]) {
     let new = Branch { original: None, key: &key, child: 9 };
     table.race(
         race("insert_branch, node read and written", "from_page, insert_branch, write_node", Some(2.0)),
-        again(|| Proved.insert_branch(black_box(block), P, new, &mut out, &mut [0; 24])),
+        again(|| Proved.insert_branch(black_box(block), P, new, &mut out, &mut [0; 32])),
         again(|| by_crate.insert_branch(black_box(&key), 9)),
     );
 }
@@ -92,15 +92,15 @@ fn splits(table: &mut Table, block: &[u8]) {
     let mut cuts = [0; 64];
     table.race(
         race("split of 80 entries, the cuts", "from_page, split", Some(2.0)),
-        again(|| Proved.split(black_box(block), P, &mut cuts, &mut [0; 24])),
+        again(|| Proved.split(black_box(block), P, &mut cuts, &mut [0; 32])),
         again(|| by_crate.split() as u64),
     );
     let pages: Vec<u64> = (0..by_crate.split() as u64).map(|i| 2 + i).collect();
     let mut out = vec![0; 32 * P as usize];
-    assert_eq!(Proved.split_write(block, P, 64, &pages, &mut out, &mut [0; 32]), 0, "written");
+    assert_eq!(Proved.split_write(block, P, 64, &pages, &mut out, &mut [0; 40]), 0, "written");
     table.race(
         race("split of 80 entries, the pieces written", "from_page, split, write_node", Some(2.0)),
-        again(|| Proved.split_write(black_box(block), P, 64, &pages, &mut out, &mut [0; 32])),
+        again(|| Proved.split_write(black_box(block), P, 64, &pages, &mut out, &mut [0; 40])),
         again(|| by_crate.split_write()),
     );
 }

@@ -57,7 +57,7 @@ impl Shard {
     }
 
     fn lookup(&self, key: &[u8]) -> (u64, usize, usize) {
-        let mut answer = [0; 48];
+        let mut answer = [0; 56];
         let (p, n) = (self.view.meta.pagesize, self.view.meta.num_pages);
         Proved.lookup(&self.view.bytes, p, n, self.root, key, &mut answer);
         let field = |i: usize| u64::from_le_bytes(answer[i * 8..i * 8 + 8].try_into().unwrap());
@@ -95,7 +95,7 @@ impl Shard {
     fn judges(&self, table: &mut Table, db: &DB) {
         let (bytes, meta) = (&self.view.bytes, &self.view.meta);
         let judge = || {
-            let mut answer = [0; 32];
+            let mut answer = [0; 40];
             Proved.judge(bytes, meta.pagesize, meta.num_pages, self.root, meta.freelist_page, &mut answer)
         };
         assert_eq!((judge(), db.check()), (0, Ok(())), "both pass");

@@ -20,13 +20,13 @@ impl Image {
         (page * self.p) as usize
     }
 
-    /// Entries, pages, page, element.
-    pub fn judged(&self, s: &dyn Subject) -> Answer<4> {
+    /// Entries, pages, page, element, common.
+    pub fn judged(&self, s: &dyn Subject) -> Answer<5> {
         ask(|answer| s.judge(&self.bytes, self.p, self.n, self.root, self.freelist, answer))
     }
 
-    /// Found, kind, place, length, page, element.
-    pub fn looked(&self, s: &dyn Subject, key: &[u8]) -> Answer<6> {
+    /// Found, kind, place, length, page, element, common.
+    pub fn looked(&self, s: &dyn Subject, key: &[u8]) -> Answer<7> {
         ask(|answer| s.lookup(&self.bytes, self.p, self.n, self.root, key, answer))
     }
 }

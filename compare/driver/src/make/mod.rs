@@ -6,6 +6,7 @@ pub mod fields;
 pub mod image;
 pub mod loose;
 pub mod overlap;
+pub mod parting;
 pub mod store;
 pub mod tree;
 

@@ -47,8 +47,8 @@ pub fn run(run: &mut Run) {
 
 fn on_images<'a>(s: &'a dyn Subject, image: &'a [u8]) -> Vec<Call<'a>> {
     vec![
-        ("lookup", 6, Box::new(|_, answer| s.lookup(image, P, 4, 2, &[5], answer))),
-        ("judge", 4, Box::new(|_, answer| s.judge(image, P, 4, 2, 3, answer))),
+        ("lookup", 7, Box::new(|_, answer| s.lookup(image, P, 4, 2, &[5], answer))),
+        ("judge", 5, Box::new(|_, answer| s.judge(image, P, 4, 2, 3, answer))),
     ]
 }
 
@@ -56,17 +56,17 @@ fn on_blocks<'a>(s: &'a dyn Subject, leaf: &'a [u8], branch: &'a [u8]) -> Vec<Ca
     let entry = Leaf { key: b"k", kind: 0, value: b"v" };
     let child = Branch { original: None, key: b"k", child: 9 };
     vec![
-        ("index", 4, Box::new(|_, answer| s.index(leaf, P, &[5], answer))),
-        ("index_page", 3, Box::new(|_, answer| s.index_page(branch, P, 0, answer))),
-        ("entry", 8, Box::new(|_, answer| s.entry(leaf, P, 0, answer))),
-        ("size", 5, Box::new(|_, answer| s.size(leaf, P, answer))),
-        ("new_leaf", 3, Box::new(|lent, answer| s.new_leaf(P, 5, &mut lent.out, answer))),
-        ("new_branch", 3, Box::new(|lent, answer| s.new_branch(P, 5, b"k", 9, &mut lent.out, answer))),
-        ("insert", 3, Box::new(move |lent, answer| s.insert(leaf, P, entry, &mut lent.out, answer))),
-        ("delete", 8, Box::new(|lent, answer| s.delete(leaf, P, 0, &mut lent.out, answer))),
-        ("insert_branch", 3, Box::new(move |lent, answer| s.insert_branch(branch, P, child, &mut lent.out, answer))),
-        ("split", 3, Box::new(|lent, answer| s.split(leaf, P, &mut lent.words, answer))),
-        ("split_write", 4, Box::new(|lent, answer| s.split_write(leaf, P, 20, &[5], &mut lent.out, answer))),
+        ("index", 5, Box::new(|_, answer| s.index(leaf, P, &[5], answer))),
+        ("index_page", 4, Box::new(|_, answer| s.index_page(branch, P, 0, answer))),
+        ("entry", 9, Box::new(|_, answer| s.entry(leaf, P, 0, answer))),
+        ("size", 6, Box::new(|_, answer| s.size(leaf, P, answer))),
+        ("new_leaf", 4, Box::new(|lent, answer| s.new_leaf(P, 5, &mut lent.out, answer))),
+        ("new_branch", 4, Box::new(|lent, answer| s.new_branch(P, 5, b"k", 9, &mut lent.out, answer))),
+        ("insert", 4, Box::new(move |lent, answer| s.insert(leaf, P, entry, &mut lent.out, answer))),
+        ("delete", 9, Box::new(|lent, answer| s.delete(leaf, P, 0, &mut lent.out, answer))),
+        ("insert_branch", 4, Box::new(move |lent, answer| s.insert_branch(branch, P, child, &mut lent.out, answer))),
+        ("split", 4, Box::new(|lent, answer| s.split(leaf, P, &mut lent.words, answer))),
+        ("split_write", 5, Box::new(|lent, answer| s.split_write(leaf, P, 20, &[5], &mut lent.out, answer))),
     ]
 }
 

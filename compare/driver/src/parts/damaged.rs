@@ -6,8 +6,9 @@ use std::collections::BTreeMap;
 use oracle::probe::meta_page::Fields;
 use oracle::probe::{file, search};
 use reading::block::page_block;
-use subject::Subject;
+use subject::{Answer, Subject};
 
+use super::commons::Commons;
 use super::files::{descend, worked, Temporary, View};
 use super::hostile::change;
 use super::Run;
@@ -15,6 +16,7 @@ use crate::by_reading::Reading;
 use crate::make::content;
 use crate::make::image::{Image, Span};
 use crate::make::overlap::overlap;
+use crate::make::parting::part;
 use crate::make::store::Plan;
 use crate::rng::Rng;
 
@@ -39,10 +41,12 @@ struct Made {
     keys: Vec<Vec<u8>>,
 }
 
-/// What came of the copies: how often each number, the keys found in those that passed, the pages of the longest block.
+/// What came of the copies: how often each number, the common beginnings of 6 and 7, the keys found in those that passed,
+/// the pages of the longest block.
 #[derive(Default)]
 struct Seen {
     numbers: BTreeMap<u64, u64>,
+    commons: Commons,
     found: usize,
     longest: u64,
 }
@@ -57,11 +61,12 @@ pub fn run(run: &mut Run) {
             compare(run, &made, &format!("file {round}, copy {copy}"), &mut seen);
         }
     }
-    let Seen { numbers, found, longest } = seen;
+    let Seen { numbers, commons, found, longest } = seen;
     let (copies, passed) = (numbers.values().sum::<u64>(), numbers.get(&0).copied().unwrap_or(0));
     println!("  damaged: {copies} copies, {passed} passed the judge, {found} keys found in them");
     let numbers: Vec<String> = numbers.iter().map(|(number, times)| format!("{number}: {times}")).collect();
     println!("  numbers given back by the judge: {}; blocks of up to {longest} pages", numbers.join(", "));
+    commons.tell(run);
 }
 
 /// Damages a copy of a file and asks about it.
@@ -75,7 +80,8 @@ fn compare(run: &mut Run, made: &Made, what: &str, seen: &mut Seen) {
         cut(&mut run.rng, &mut image);
     }
     lookups(run, &image, &made.keys, what);
-    let number = judged(run, &image, what);
+    let Answer { number, fields: [.., common] } = judged(run, &image, what);
+    seen.commons.add(number, common);
     *seen.numbers.entry(number).or_default() += 1;
     if number == 0 {
         seen.found += whole(run, &image, what);
@@ -99,12 +105,12 @@ fn made(rng: &mut Rng, plan: &Plan) -> Made {
     Made { image: Image { bytes: view.bytes, p, n, root: roots[0], freelist }, trees, keys }
 }
 
-/// One kind of damage, mostly to the tree: a byte, a field, blocks that overlap, pages swapped or copied, garbage,
-/// another root or freelist.
+/// One kind of damage, mostly to the tree: a byte, a field, blocks that overlap, keys that begin alike, pages swapped or
+/// copied, garbage, another root or freelist.
 fn damage(rng: &mut Rng, image: &mut Image, tree: &[Span]) {
     let (p, n) = (image.p as usize, image.n);
     let (at, other) = (image.start(rng.pick(tree).0), rng.between(2, n - 1) as usize * p);
-    match rng.below(16) {
+    match rng.below(18) {
         0 => flip(rng, &mut image.bytes),
         1..=3 => flip(rng, &mut image.bytes[at..at + 200]),
         4..=6 => change(rng, &mut image.bytes, at, n),
@@ -113,6 +119,7 @@ fn damage(rng: &mut Rng, image: &mut Image, tree: &[Span]) {
         9 => garbage(rng, &mut image.bytes),
         10 => garbage(rng, &mut image.bytes[at..at + p]),
         11..=14 => overlap(rng, image, tree),
+        15..=16 => part(rng, image, tree),
         _ if rng.one_in(2) => image.root = rng.between(0, n),
         _ => image.freelist = rng.between(0, n),
     }
@@ -141,7 +148,7 @@ fn garbage(rng: &mut Rng, bytes: &mut [u8]) {
     bytes[at..at + length].copy_from_slice(&stretch);
 }
 
-fn lookup(s: &dyn Subject, image: &Image, key: &[u8]) -> (u64, [u64; 6]) {
+fn lookup(s: &dyn Subject, image: &Image, key: &[u8]) -> (u64, [u64; 7]) {
     let got = image.looked(s, key);
     (got.number, got.fields)
 }
@@ -155,11 +162,11 @@ fn lookups(run: &mut Run, image: &Image, keys: &[Vec<u8>], what: &str) {
     }
 }
 
-/// The judge beside the reading: its number.
-fn judged(run: &mut Run, image: &Image, what: &str) -> u64 {
+/// The judge beside the reading: its answer.
+fn judged(run: &mut Run, image: &Image, what: &str) -> Answer<5> {
     let expected = image.judged(&Reading);
     run.tally.same(image.judged(run.subject), expected, || format!("{what}: judge, P {}", image.p));
-    expected.number
+    expected
 }
 
 /// Every entry of the tree is found where it stands, and as many other keys are absent: how many entries there are.
@@ -172,13 +179,13 @@ fn whole(run: &mut Run, image: &Image, what: &str) -> usize {
         while entries.contains_key(&absent) {
             absent.push(run.rng.next() as u8);
         }
-        run.tally.same(lookup(run.subject, image, &absent), (0, [0; 6]), || format!("{what}: absent {absent:?}"));
+        run.tally.same(lookup(run.subject, image, &absent), (0, [0; 7]), || format!("{what}: absent {absent:?}"));
     }
     entries.len()
 }
 
 /// The fields that lookup is to answer for each key, by the reading's own walk over all leaves.
-fn walk(image: &Image, page: u64, is_root: bool, entries: &mut BTreeMap<Vec<u8>, [u64; 6]>) {
+fn walk(image: &Image, page: u64, is_root: bool, entries: &mut BTreeMap<Vec<u8>, [u64; 7]>) {
     let block = page_block(&image.bytes, image.p, image.n, page, is_root).unwrap();
     for (entry, place) in block.entries.iter().zip(&block.places) {
         if !block.leaf {
@@ -186,6 +193,6 @@ fn walk(image: &Image, page: u64, is_root: bool, entries: &mut BTreeMap<Vec<u8>,
             continue;
         }
         let value = page * image.p + (place + entry.key.len()) as u64;
-        entries.insert(entry.key.to_vec(), [1, entry.tag, value, entry.value.len() as u64, 0, 0]);
+        entries.insert(entry.key.to_vec(), [1, entry.tag, value, entry.value.len() as u64, 0, 0, 0]);
     }
 }

@@ -22,8 +22,8 @@ fn search(run: &mut Run) {
             [b"b", b"d"].map(|key| Item { tag: if leaf { 0 } else { 7 }, key: key.to_vec(), value: Vec::new() });
         let block = write_content(&Content { leaf, items: items.to_vec() }, P, 5, 0);
         for (key, index, found) in [("a", 0, 0), ("b", 0, 1), ("c", 0, 0), ("e", 1, 0)] {
-            let got = ask::<4>(|answer| run.subject.index(&block, P, key.as_bytes(), answer));
-            run.tally.same((got.number, got.fields), (0, [index, found, 0, 0]), || format!("index of {key}"));
+            let got = ask::<5>(|answer| run.subject.index(&block, P, key.as_bytes(), answer));
+            run.tally.same((got.number, got.fields), (0, [index, found, 0, 0, 0]), || format!("index of {key}"));
         }
     }
 }
@@ -40,8 +40,8 @@ fn leaf(payloads: &[usize]) -> Vec<u8> {
 
 fn sizes(run: &mut Run) {
     for (payload, size, pages) in [(952, 1_024, 1), (953, 1_025, 2)] {
-        let got = ask::<5>(|answer| run.subject.size(&leaf(&[payload]), P, answer));
-        run.tally.same((got.number, got.fields), (0, [size, pages, 1, 0, 0]), || format!("size {size}"));
+        let got = ask::<6>(|answer| run.subject.size(&leaf(&[payload]), P, answer));
+        run.tally.same((got.number, got.fields), (0, [size, pages, 1, 0, 0, 0]), || format!("size {size}"));
     }
 }
 
@@ -55,11 +55,11 @@ fn splits(run: &mut Run) {
     ];
     for (payloads, cuts) in cases {
         let mut list = [0; 8];
-        let got = ask::<3>(|answer| run.subject.split(&leaf(payloads), P, &mut list, answer));
-        let expected = (0, [cuts.len() as u64, 0, 0], cuts);
+        let got = ask::<4>(|answer| run.subject.split(&leaf(payloads), P, &mut list, answer));
+        let expected = (0, [cuts.len() as u64, 0, 0, 0], cuts);
         run.tally.same((got.number, got.fields, &list[..cuts.len()]), expected, || format!("split of {payloads:?}"));
     }
-    let got = ask::<5>(|answer| run.subject.size(&leaf(&[10, 10, 10, 10, 900]), P, answer));
+    let got = ask::<6>(|answer| run.subject.size(&leaf(&[10, 10, 10, 10, 900]), P, answer));
     run.tally.same((got.number, got.fields[1]), (0, 2), || "pages of 10, 10, 10, 10, 900".into());
 }
 
@@ -92,11 +92,11 @@ fn whole_page(run: &mut Run) {
     expected[96..100].copy_from_slice(&[0x61, 0x78, 0x79, 0x62]);
     let subject = run.subject;
     let mut block = vec![0xFF; P as usize];
-    let mut numbers = vec![ask::<3>(|answer| subject.new_leaf(P, 5, &mut block, answer)).number];
+    let mut numbers = vec![ask::<4>(|answer| subject.new_leaf(P, 5, &mut block, answer)).number];
     for (key, value) in [("b", ""), ("a", "xy")] {
         let mut out = vec![0xFF; P as usize];
         let entry = Leaf { key: key.as_bytes(), kind: 0, value: value.as_bytes() };
-        numbers.push(ask::<3>(|answer| subject.insert(&block, P, entry, &mut out, answer)).number);
+        numbers.push(ask::<4>(|answer| subject.insert(&block, P, entry, &mut out, answer)).number);
         block = out;
     }
     run.tally.same((numbers, block), (vec![0; 3], expected), || "page 5, a to xy, b to nothing".into());

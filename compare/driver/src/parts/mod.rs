@@ -1,6 +1,7 @@
 //! The parts of the comparison. Each asks a subject and holds its answers against the crate, 01's text or the reading.
 
 pub mod answers;
+mod commons;
 pub mod damaged;
 pub mod examples;
 pub mod files;

@@ -30,12 +30,12 @@ struct Case {
 }
 
 fn size(run: &mut Run, case: &Case) {
-    let got = ask::<5>(|answer| run.subject.size(&case.block, case.p, answer));
+    let got = ask::<6>(|answer| run.subject.size(&case.block, case.p, answer));
     let size = edit::size(&case.block, case.p);
     let merging = u64::from(edit::needs_merging(&case.block, case.p));
     let expected = match size > MAX_NODE_SIZE {
-        true => (15, [0; 5]),
-        false => (0, [size, size.div_ceil(case.p), merging, 0, 0]),
+        true => (15, [0; 6]),
+        false => (0, [size, size.div_ceil(case.p), merging, 0, 0, 0]),
     };
     run.tally.same((got.number, got.fields), expected, || format!("size of {:?}, P {}", case.content, case.p));
 }
@@ -49,7 +49,7 @@ fn insert(run: &mut Run, case: &Case) {
     let entry = content::item(&mut run.rng, true, key, case.p);
     let subject = run.subject;
     let leaf = Leaf { key: &entry.key, kind: entry.tag, value: &entry.value };
-    edited::<3>(
+    edited::<4>(
         run,
         || format!("insert {entry:?} into {:?}, P {}", case.content, case.p),
         |out, answer| subject.insert(&case.block, case.p, leaf, out, answer),
@@ -61,7 +61,7 @@ fn delete(run: &mut Run, case: &Case) {
     let index = run.rng.below(case.content.items.len() + 2);
     let subject = run.subject;
     let what = || format!("delete {index} from {:?}, P {}", case.content, case.p);
-    let answer = edited::<8>(
+    let answer = edited::<9>(
         run,
         what,
         |out, answer| subject.delete(&case.block, case.p, index as u64, out, answer),
@@ -93,7 +93,7 @@ fn insert_branch(run: &mut Run, case: &Case) {
     let subject = run.subject;
     let branch = Branch { original: original.as_deref(), key: &key, child };
     let in_order = replaces_in_order(items, original.as_deref(), &key);
-    edited::<3>(
+    edited::<4>(
         run,
         what,
         |out, answer| subject.insert_branch(&case.block, case.p, branch, out, answer),
@@ -153,13 +153,13 @@ fn first_blocks(run: &mut Run, p: u64) {
     let subject = run.subject;
     let leaf = Content { leaf: true, items: Vec::new() };
     let branch = Content { leaf: false, items: vec![Item { tag, key: key.clone(), value: Vec::new() }] };
-    edited::<3>(
+    edited::<4>(
         run,
         || format!("new_leaf {id}, P {p}"),
         |out, answer| subject.new_leaf(p, id, out, answer),
         |fill| Some(write_content(&leaf, p, id, fill)),
     );
-    edited::<3>(
+    edited::<4>(
         run,
         || format!("new_branch {id} {key:?} {tag}, P {p}"),
         |out, answer| subject.new_branch(p, id, &key, tag, out, answer),

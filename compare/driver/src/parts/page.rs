@@ -25,27 +25,27 @@ pub fn run(run: &mut Run) {
 }
 
 fn index(run: &mut Run, round: usize, block: &[u8], p: u64, key: &[u8]) {
-    let got = ask::<4>(|answer| run.subject.index(block, p, key, answer));
+    let got = ask::<5>(|answer| run.subject.index(block, p, key, answer));
     for (i, found) in search::index(block, p, key) {
-        let expected = [i as u64, u64::from(found), 0, 0];
+        let expected = [i as u64, u64::from(found), 0, 0, 0];
         run.tally.same((got.number, got.fields), (0, expected), || format!("round {round}: index of {key:?}, P {p}"));
     }
 }
 
 fn index_page(run: &mut Run, round: usize, block: &[u8], p: u64, i: usize) {
-    let got = ask::<3>(|answer| run.subject.index_page(block, p, i as u64, answer));
+    let got = ask::<4>(|answer| run.subject.index_page(block, p, i as u64, answer));
     for page in search::index_page(block, p, i) {
-        let expected = page.map_or((11, [0; 3]), |page| (0, [page, 0, 0]));
+        let expected = page.map_or((11, [0; 4]), |page| (0, [page, 0, 0, 0]));
         run.tally.same((got.number, got.fields), expected, || format!("round {round}: index_page of {i}, P {p}"));
     }
 }
 
 fn entry(run: &mut Run, round: usize, block: &[u8], p: u64, i: usize) {
-    let got = ask::<8>(|answer| run.subject.entry(block, p, i as u64, answer));
+    let got = ask::<9>(|answer| run.subject.entry(block, p, i as u64, answer));
     let [held, tag, key, key_length, value, value_length, rest @ ..] = got.fields;
     let part = |start, length| block[start as usize..(start + length) as usize].to_vec();
     let item = (held == 1).then(|| Item { tag, key: part(key, key_length), value: part(value, value_length) });
-    let zeros = if item.is_some() { rest == [0; 2] } else { got.fields == [0; 8] };
+    let zeros = if item.is_some() { rest == [0; 3] } else { got.fields == [0; 9] };
     for val in search::val(block, p, i) {
         let expected = val.map_or((11, None, true), |item| (0, item, true));
         run.tally.same((got.number, item.clone(), zeros), expected, || format!("round {round}: entry {i}, P {p}"));

@@ -53,8 +53,8 @@ fn start(run: &mut Run, leaf: bool, p: u64) -> Pair {
     let (key, tag) = (content::key(&mut run.rng), run.rng.between(2, 40_000));
     let mut ours = vec![0; 2 * p as usize];
     let got = match leaf {
-        true => ask::<3>(|answer| run.subject.new_leaf(p, id, &mut ours, answer)),
-        false => ask::<3>(|answer| run.subject.new_branch(p, id, &key, tag, &mut ours, answer)),
+        true => ask::<4>(|answer| run.subject.new_leaf(p, id, &mut ours, answer)),
+        false => ask::<4>(|answer| run.subject.new_branch(p, id, &key, tag, &mut ours, answer)),
     };
     let items = if leaf { Vec::new() } else { vec![Item { tag, key, value: Vec::new() }] };
     let pair = Pair::new(write_content(&Content { leaf, items }, p, id, DIRT));
@@ -76,7 +76,7 @@ fn delete(run: &mut Run, pair: &mut Pair, p: u64, count: usize, what: &str) {
     let index = run.rng.below(count);
     let (subject, block) = (run.subject, pair.ours.clone());
     let written = edit::delete(&pair.theirs, p, index, DIRT).unwrap().0;
-    went_on::<8>(run, pair, written, what, |out, answer| subject.delete(&block, p, index as u64, out, answer));
+    went_on::<9>(run, pair, written, what, |out, answer| subject.delete(&block, p, index as u64, out, answer));
 }
 
 fn insert(run: &mut Run, pair: &mut Pair, p: u64, keys: &[Vec<u8>], what: &str) {
@@ -88,7 +88,7 @@ fn insert(run: &mut Run, pair: &mut Pair, p: u64, keys: &[Vec<u8>], what: &str) 
     let (subject, block) = (run.subject, pair.ours.clone());
     let leaf = Leaf { key: &entry.key, kind: entry.tag, value: &entry.value };
     let written = edit::insert(&pair.theirs, p, &entry, DIRT).unwrap();
-    went_on::<3>(run, pair, written, what, |out, answer| subject.insert(&block, p, leaf, out, answer));
+    went_on::<4>(run, pair, written, what, |out, answer| subject.insert(&block, p, leaf, out, answer));
 }
 
 /// A child under a new key, or in place of another whose key stays or grows by a byte that keeps the order.
@@ -105,7 +105,7 @@ fn insert_branch(run: &mut Run, pair: &mut Pair, p: u64, keys: &[Vec<u8>], what:
     let (subject, block) = (run.subject, pair.ours.clone());
     let branch = Branch { original, key: &key, child };
     let written = edit::insert_branch(&pair.theirs, p, original, &key, child, DIRT).unwrap();
-    went_on::<3>(run, pair, written, what, |out, answer| subject.insert_branch(&block, p, branch, out, answer));
+    went_on::<4>(run, pair, written, what, |out, answer| subject.insert_branch(&block, p, branch, out, answer));
 }
 
 /// Takes the block that each side writes, after seeing that they are the same.
@@ -125,10 +125,11 @@ fn went_on<const F: usize>(
 }
 
 fn size(run: &mut Run, pair: &Pair, p: u64, what: &str) {
-    let got = ask::<5>(|answer| run.subject.size(&pair.ours, p, answer));
+    let got = ask::<6>(|answer| run.subject.size(&pair.ours, p, answer));
     let size = edit::size(&pair.theirs, p);
     let merging = u64::from(edit::needs_merging(&pair.theirs, p));
-    run.tally.same((got.number, got.fields), (0, [size, size.div_ceil(p), merging, 0, 0]), || format!("{what}: size"));
+    run.tally
+        .same((got.number, got.fields), (0, [size, size.div_ceil(p), merging, 0, 0, 0]), || format!("{what}: size"));
 }
 
 /// The cuts and the pieces of a block, which go on as blocks of their own.
@@ -140,12 +141,13 @@ fn pieces(run: &mut Run, pair: &Pair, p: u64, what: &str) -> Vec<Pair> {
     let counts: Vec<u64> = theirs.iter().map(|piece| fields::get(piece, 16)).collect();
     let ends: Vec<u64> = (1..counts.len()).map(|end| counts[..end].iter().sum()).collect();
     let mut cuts = vec![u64::MAX; ends.len()];
-    let got = ask::<3>(|answer| run.subject.split(&pair.ours, p, &mut cuts, answer));
-    run.tally.same((got.number, got.fields, &cuts), (0, [ends.len() as u64, 0, 0], &ends), || format!("{what}: cuts"));
+    let got = ask::<4>(|answer| run.subject.split(&pair.ours, p, &mut cuts, answer));
+    run.tally
+        .same((got.number, got.fields, &cuts), (0, [ends.len() as u64, 0, 0, 0], &ends), || format!("{what}: cuts"));
     let length = theirs.iter().map(Vec::len).sum::<usize>();
     let mut out = vec![0; length];
-    let got = ask::<4>(|answer| run.subject.split_write(&pair.ours, p, n, &ids, &mut out, answer));
-    let fields = [length as u64, theirs.len() as u64, 0, 0];
+    let got = ask::<5>(|answer| run.subject.split_write(&pair.ours, p, n, &ids, &mut out, answer));
+    let fields = [length as u64, theirs.len() as u64, 0, 0, 0];
     run.tally.same((got.number, got.fields), (0, fields), || format!("{what}: pieces"));
     let pairs: Vec<Pair> = theirs.into_iter().map(Pair::new).collect();
     let pieces: Vec<u8> = pairs.iter().flat_map(|pair| pair.ours.clone()).collect();

@@ -46,9 +46,9 @@ fn searches(run: &mut Run, [a, b]: [u8; 2]) {
         };
         let block = write_content(&Content { leaf, items: present.map(item).collect() }, P, 5, 0);
         for key in &keys {
-            let got = ask::<4>(|answer| run.subject.index(&block, P, key, answer));
+            let got = ask::<5>(|answer| run.subject.index(&block, P, key, answer));
             for (i, found) in search::index(&block, P, key) {
-                let expected = (0, [i as u64, u64::from(found), 0, 0]);
+                let expected = (0, [i as u64, u64::from(found), 0, 0, 0]);
                 run.tally.same((got.number, got.fields), expected, || format!("index of {key:?} in {set:b}"));
             }
         }
@@ -69,8 +69,8 @@ fn splits(run: &mut Run, leaf: bool, count: u32) {
         let counts: Vec<u64> = split::split(&block, P, 0, |_| 2).iter().map(|piece| get(piece, 16)).collect();
         let ends: Vec<u64> = (1..counts.len()).map(|end| counts[..end].iter().sum()).collect();
         let mut cuts = [0; 8];
-        let got = ask::<3>(|answer| run.subject.split(&block, P, &mut cuts, answer));
-        let expected = (0, [ends.len() as u64, 0, 0], ends.as_slice());
+        let got = ask::<4>(|answer| run.subject.split(&block, P, &mut cuts, answer));
+        let expected = (0, [ends.len() as u64, 0, 0, 0], ends.as_slice());
         run.tally.same((got.number, got.fields, &cuts[..ends.len()]), expected, || {
             format!("split of {:?}, leaf {leaf}", (0..count).map(payload).collect::<Vec<_>>())
         });

@@ -53,17 +53,17 @@ fn pieces(run: &mut Run, block: &[u8], p: u64, round: usize) {
 fn cuts(run: &mut Run, block: &[u8], p: u64, expected: &[u64], too_large: bool, what: &impl Fn() -> String) {
     let untouched = u64::MAX;
     let mut list = vec![untouched; expected.len() + 2];
-    let got = ask::<3>(|answer| run.subject.split(block, p, &mut list, answer));
+    let got = ask::<4>(|answer| run.subject.split(block, p, &mut list, answer));
     if too_large {
-        run.tally.same((got.number, got.fields, list[0]), (15, [0; 3], untouched), what);
+        run.tally.same((got.number, got.fields, list[0]), (15, [0; 4], untouched), what);
         return;
     }
-    run.tally.same((got.number, got.fields), (0, [expected.len() as u64, 0, 0]), what);
+    run.tally.same((got.number, got.fields), (0, [expected.len() as u64, 0, 0, 0]), what);
     run.tally.same(list, [expected, &[untouched; 2]].concat(), what);
     if let Some(short) = expected.len().checked_sub(1) {
         let mut list = vec![untouched; short];
-        let got = ask::<3>(|answer| run.subject.split(block, p, &mut list, answer));
-        run.tally.same((got.number, got.fields, list), (10, [0; 3], vec![untouched; short]), what);
+        let got = ask::<4>(|answer| run.subject.split(block, p, &mut list, answer));
+        run.tally.same((got.number, got.fields, list), (10, [0; 4], vec![untouched; short]), what);
     }
 }
 
@@ -72,22 +72,22 @@ fn placed(run: &mut Run, block: &[u8], p: u64, n: u64, ids: &[u64], too_large: b
     let expected = split::split(block, p, 0, |i| ids[i]).concat();
     let mut out = lent(&mut run.rng, expected.len());
     let subject = run.subject;
-    let got = ask::<4>(|answer| subject.split_write(block, p, n, ids, &mut out, answer));
+    let got = ask::<5>(|answer| subject.split_write(block, p, n, ids, &mut out, answer));
     if too_large {
-        run.tally.same((got.number, got.fields, kept(&out)), (15, [0; 4], true), what);
+        run.tally.same((got.number, got.fields, kept(&out)), (15, [0; 5], true), what);
         return;
     }
-    let fields = [expected.len() as u64, ids.len() as u64, 0, 0];
+    let fields = [expected.len() as u64, ids.len() as u64, 0, 0, 0];
     run.tally.same((got.number, got.fields), (0, fields), what);
     run.tally.check(out.starts_with(&expected), || format!("{}: other bytes", what()));
     run.tally.check(kept(&out[expected.len()..]), || format!("{}: output beyond", what()));
     let mut short = vec![FILLER; expected.len() - 1];
-    let got = ask::<4>(|answer| subject.split_write(block, p, n, ids, &mut short, answer));
-    run.tally.same((got.number, got.fields, kept(&short)), (10, [0; 4], true), what);
+    let got = ask::<5>(|answer| subject.split_write(block, p, n, ids, &mut short, answer));
+    run.tally.same((got.number, got.fields, kept(&short)), (10, [0; 5], true), what);
     let longer = [ids, &[n - 1]].concat();
     for list in [&longer, &ids[1..]] {
-        let got = ask::<4>(|answer| subject.split_write(block, p, n, list, &mut short, answer));
-        run.tally.same((got.number, got.fields, kept(&short)), (11, [0; 4], true), what);
+        let got = ask::<5>(|answer| subject.split_write(block, p, n, list, &mut short, answer));
+        run.tally.same((got.number, got.fields, kept(&short)), (11, [0; 5], true), what);
     }
 }
 
@@ -108,6 +108,6 @@ fn by_freelist(run: &mut Run, block: &[u8], p: u64, what: &impl Fn() -> String) 
     };
     let expected: Vec<u8> = written.into_iter().flat_map(|(_, piece)| whole(piece)).collect();
     let mut out = vec![FILLER; expected.len()];
-    let got = ask::<4>(|answer| run.subject.split_write(block, p, n, &ids, &mut out, answer));
+    let got = ask::<5>(|answer| run.subject.split_write(block, p, n, &ids, &mut out, answer));
     run.tally.same((got.number, out == expected), (0, true), || format!("{} by the freelist, ids {ids:?}", what()));
 }

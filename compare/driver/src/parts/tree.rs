@@ -13,7 +13,7 @@ pub fn run(run: &mut Run) {
         let what = || format!("round {round}: {} entries, {} levels, P {}", shape.entries, shape.levels, shape.p);
         let got = tree.image.judged(run.subject);
         let pages: u64 = tree.spans.iter().map(|(_, pages)| pages).sum();
-        run.tally.same((got.number, got.fields), (0, [tree.items.len() as u64, pages, 0, 0]), what);
+        run.tally.same((got.number, got.fields), (0, [tree.items.len() as u64, pages, 0, 0, 0]), what);
         let make::image::Image { bytes, p, n, root, .. } = &tree.image;
         let image = Image::new(bytes, *p);
         let keys: Vec<Vec<u8>> = tree.items.iter().map(|item| item.key.clone()).collect();
@@ -29,10 +29,10 @@ pub fn run(run: &mut Run) {
 
 /// The subject's lookup in the crate's words: the entry, nothing, or the number of a refusal.
 pub fn looked(run: &Run, image: &[u8], (p, n, root): (u64, u64, u64), key: &[u8]) -> Result<Option<Hit>, u64> {
-    let got = ask::<6>(|answer| run.subject.lookup(image, p, n, root, key, answer));
+    let got = ask::<7>(|answer| run.subject.lookup(image, p, n, root, key, answer));
     match (got.number, got.fields) {
-        (0, [0, 0, 0, 0, 0, 0]) => Ok(None),
-        (0, [1, kind, place, length, 0, 0]) => {
+        (0, [0, 0, 0, 0, 0, 0, 0]) => Ok(None),
+        (0, [1, kind, place, length, 0, 0, 0]) => {
             let value = image[place as usize..(place + length) as usize].to_vec();
             Ok(Some(Hit { kind, place, value }))
         }

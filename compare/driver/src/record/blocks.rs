@@ -79,7 +79,7 @@ fn key(rng: &mut Rng, content: &Content) -> Vec<u8> {
 fn index(rng: &mut Rng, tape: &mut Tape, case: &Case) {
     let key = key(rng, &case.content);
     let [(i, found), _] = search::index(&case.block, case.p, &key);
-    let fields = [i as u64, u64::from(found), 0, 0];
+    let fields = [i as u64, u64::from(found), 0, 0, 0];
     let arguments = [case.p];
     let asked = Record { call: Call::Index, arguments: &arguments, block: &case.block, key: &key, ..Record::default() };
     tape.add(&Record { fields: &fields, ..asked });
@@ -93,7 +93,7 @@ fn index_page(rng: &mut Rng, tape: &mut Tape, case: &Case) {
         number: if page.is_some() { 0 } else { 11 },
         arguments: &[case.p, i as u64],
         block: &case.block,
-        fields: &[page.unwrap_or(0), 0, 0],
+        fields: &[page.unwrap_or(0), 0, 0, 0],
         ..Record::default()
     });
 }
@@ -105,7 +105,7 @@ fn size(tape: &mut Tape, case: &Case) {
         call: Call::Size,
         arguments: &[case.p],
         block: &case.block,
-        fields: &[size, size.div_ceil(case.p), merging, 0, 0],
+        fields: &[size, size.div_ceil(case.p), merging, 0, 0, 0],
         ..Record::default()
     });
 }
@@ -180,7 +180,7 @@ fn new_blocks(rng: &mut Rng, tape: &mut Tape) {
 fn edited(rng: &mut Rng, tape: &mut Tape, asked: Record, written: Option<Vec<u8>>, removed: &[u64], refusal: u64) {
     let number = if written.is_some() { 0 } else { refusal };
     let output = written.unwrap_or_default();
-    let fields = [&[output.len() as u64], removed, &[0, 0]].concat();
+    let fields = [&[output.len() as u64], removed, &[0, 0, 0]].concat();
     let room = output.len() + rng.pick(&[0, 1, 7, 1_024]);
     tape.add(&Record { number, room, fields: &fields, output: &output, ..asked });
 }

@@ -69,7 +69,7 @@ fn judge(tape: &mut Tape, view: &View, root: u64) {
     tape.add(&Record {
         call: Call::Judge,
         arguments: &[view.meta.pagesize, view.meta.num_pages, root, freelist],
-        fields: &[image.entries(root), image.used(root, freelist), 0, 0],
+        fields: &[image.entries(root), image.used(root, freelist), 0, 0, 0],
         ..Record::default()
     });
 }
@@ -86,7 +86,7 @@ fn lookups(rng: &mut Rng, tape: &mut Tape, bytes: &[u8], (p, n, root): (u64, u64
             call: Call::Lookup,
             arguments: &[p, n, root],
             key: &key,
-            fields: &hit.map_or([0; 6], |hit| [1, hit.kind, hit.place, hit.value.len() as u64, 0, 0]),
+            fields: &hit.map_or([0; 7], |hit| [1, hit.kind, hit.place, hit.value.len() as u64, 0, 0, 0]),
             ..Record::default()
         });
     }

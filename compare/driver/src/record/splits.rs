@@ -33,7 +33,7 @@ fn cuts(tape: &mut Tape, block: &[u8], p: u64) {
         arguments: &[p],
         room: ends.len() + 2,
         block,
-        fields: &[ends.len() as u64, 0, 0],
+        fields: &[ends.len() as u64, 0, 0, 0],
         output: &words(&ends),
         ..Record::default()
     });
@@ -50,7 +50,7 @@ fn pieces(rng: &mut Rng, tape: &mut Tape, block: &[u8], p: u64) {
         room: written.len() + rng.pick(&[0, 1, 7, 1_024]),
         block,
         other: &words(&ids),
-        fields: &[written.len() as u64, ids.len() as u64, 0, 0],
+        fields: &[written.len() as u64, ids.len() as u64, 0, 0, 0],
         output: &written,
         ..Record::default()
     });

@@ -28,7 +28,7 @@ returns c =
     let b = now (a .b) in
     let p = c .before .find .result in
     let there = found-at false b (now (a .key)) (p .at) (sym (c .before .find .ensures) ∙ place-is p true (c .if1 .taken)) in
-    refused-edits false (idOf b) (a .p) (a .out .now) 14 0
+    refused-edits false (idOf b) (a .p) (a .out .now) 14 0 0
     (add-present (a .p) (a .out .now) b (entryWith (a .child) (now (a .key)) []) (present-at b (now (a .key)) (p .at) (there .0) (there .1)))
 
 returns-2 : tie.Need-returns-2

@@ -25,14 +25,14 @@ is-leaf-requires c κs = let a = c .before .before .before .before .before .befo
 returns : tie.Need-returns
 returns c =
     let a = c .before .before .before .before .before .before .before .before .before .args in
-    refused-edits false (idOf (now (a .b))) (a .p) (a .out .now) 11 0
+    refused-edits false (idOf (now (a .b))) (a .p) (a .out .now) 11 0 0
     (branched-leaf (a .p) (now (a .b)) (a .has) (now (a .original)) (now (a .key)) (a .child) (a .out .now) (passed (c .before .before)) (sym (c .before .is-leaf .ensures) ∙ c .if1 .taken))
 
 returns-2 : tie.Need-returns-2
 returns-2 c =
     let q = c .before in
     let a = q .before .before .before .before .before .before .before .before .before .args in
-    refused-edits false (idOf (now (a .b))) (a .p) (a .out .now) 11 0
+    refused-edits false (idOf (now (a .b))) (a .p) (a .out .now) 11 0 0
     (branched-child (a .p) (now (a .b)) (a .has) (now (a .original)) (now (a .key)) (a .child) (a .out .now) (passed (q .before .before)) (branch q) (omega arith))
 
 replace-branch-requires : tie.Need-replace-branch-requires
@@ -54,8 +54,8 @@ add-branch-requires c κs = let q = c .before .before .before in (passed (q .bef
 returns-4 : tie.Need-returns-4
 returns-4 c =
     let a = c .before .before .before .before .before .before .before .before .args in
-    refused-edits false (idOf (now (a .b))) (a .p) (a .out .now) _ _
-    (branched-breach (a .p) (now (a .b)) (a .has) (now (a .original)) (now (a .key)) (a .child) (a .out .now) _ _ (sym (c .before .before .before .lent-check .ensures) ∙ c .before .number .given .1))
+    refused-edits false (idOf (now (a .b))) (a .p) (a .out .now) _ _ _
+    (branched-breach (a .p) (now (a .b)) (a .has) (now (a .original)) (now (a .key)) (a .child) (a .out .now) _ _ _ (sym (c .before .before .before .lent-check .ensures) ∙ c .before .number .given .1))
 
 returns-5 : tie.Need-returns-5
 returns-5 c =

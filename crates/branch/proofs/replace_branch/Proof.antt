@@ -45,7 +45,7 @@ returns c =
     let b = now (a .b) in
     let p = c .before .before .find .result in
     let none = missing-none false true b (sound s) (now (a .original)) (p .at) (sym (c .before .before .find .ensures) ∙ place-is p false (not-true _ (c .if1 .taken))) in
-    refused-edits false (idOf b) (a .p) (a .out .now) 14 0
+    refused-edits false (idOf b) (a .p) (a .out .now) 14 0 0
     (replace-absent (a .p) (a .out .now) b (entryWith (a .child) (now (a .key)) []) (now (a .original)) (absent-all b (now (a .original)) none))
 
 not-above-requires : tie.Need-not-above-requires
@@ -59,7 +59,7 @@ returns-2 c =
     let b = now (a .b) in
     let h = there q in
     let broken : notAbove b (q .before .before .find .result .at) (now (a .key)) ≡ true = sym (c .before .not-above .ensures) ∙ c .if2 .taken in
-    refused-edits false (idOf b) (a .p) (a .out .now) 14 0
+    refused-edits false (idOf b) (a .p) (a .out .now) 14 0 0
     (replace-breaks (a .p) (a .out .now) b (entryWith (a .child) (now (a .key)) []) (now (a .original)) (sound s) _ (h .0) (h .1) (rw broken))
 
 not-below-requires : tie.Need-not-below-requires
@@ -79,7 +79,7 @@ returns-3 c =
     let h = there q in
     let kept : notAbove b (q .before .before .find .result .at) (now (a .key)) ≡ false = sym (k .before .not-above .ensures) ∙ k .if2 .left in
     let broken : notBelow b (q .before .before .find .result .at) (now (a .key)) ≡ true = sym (c .before .not-below .ensures) ∙ c .if3 .taken in
-    refused-edits false (idOf b) (a .p) (a .out .now) 14 0
+    refused-edits false (idOf b) (a .p) (a .out .now) 14 0 0
     (replace-breaks (a .p) (a .out .now) b (entryWith (a .child) (now (a .key)) []) (now (a .original)) (sound s) _ (h .0) (h .1) (rw (kept, broken)))
 
 replace-requires : tie.Need-replace-requires

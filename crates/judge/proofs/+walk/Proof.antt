@@ -201,10 +201,10 @@ module _ (t : ℕ) where
       let q = k .before .before .before .before .before .child .result in (
         λ vs m.
             let r = reached l vs m in
-            says-fault (c .broken .result) _ _ _ _
-            (r .2 ∙ turn-broken f (a .c) (l .loop .i) (walkOf (a .n) (pagesOf (now (a .image)) (a .p) (a .n)) (viewOf (now (a .image)) (a .p) (a .n)) (a .left) false) (upperOf (a .bounded) (now (a .high))) (l .loop .entries) (r .0) _ _ _ (k .before .before .before .before .before .before .loop-test .taken)
+            says-fault (c .broken .result) _ _ _ _ _
+            (r .2 ∙ turn-broken f (a .c) (l .loop .i) (walkOf (a .n) (pagesOf (now (a .image)) (a .p) (a .n)) (viewOf (now (a .image)) (a .p) (a .n)) (a .left) false) (upperOf (a .bounded) (now (a .high))) (l .loop .entries) (r .0) _ _ _ _ (k .before .before .before .before .before .before .loop-test .taken)
             (child-is k (r .0)
-            ∙ met-breach (a .n) (pagesOf (now (a .image)) (a .p) (a .n)) (viewOf (now (a .image)) (a .p) (a .n)) (a .left) false q (now (k .before .before .key .result)) (upperOf (k .before .before .before .has-upper .result) (now (k .before .before .before .before .upper .result))) (r .0) _ _ _ (sym (told k (r .0) (r .1)) ∙ c .before .before .number .given .1)))
+            ∙ met-breach (a .n) (pagesOf (now (a .image)) (a .p) (a .n)) (viewOf (now (a .image)) (a .p) (a .n)) (a .left) false q (now (k .before .before .key .result)) (upperOf (k .before .before .before .has-upper .result) (now (k .before .before .before .before .upper .result))) (r .0) _ _ _ _ (sym (told k (r .0) (r .1)) ∙ c .before .before .number .given .1)))
             (c .broken .ensures .0),
         λ i e. never-both (c .broken .result) _ i (c .broken .ensures .0) e,
       )
@@ -326,8 +326,8 @@ module _ (t : ℕ) where
         λ vs m.
             let r = reached l vs m in
             let e = says-broken (w .walk .result) _ f (child-walk w (r .0) (r .1)) (o .before .outcome .given .1) in
-            says-fault (c .broken2 .result) _ (f .number) (f .page) (f .element)
-            (r .2 ∙ turn-broken (childItem (now (l .before .block .result))) (a .c) (l .loop .i) (walkOf (a .n) (pagesOf (now (a .image)) (a .p) (a .n)) (viewOf (now (a .image)) (a .p) (a .n)) (a .left) false) (upperOf (a .bounded) (now (a .high))) (l .loop .entries) (r .0) _ _ _ (k .before .before .before .before .before .before .loop-test .taken) e)
+            says-fault (c .broken2 .result) _ (f .number) (f .page) (f .element) (f .common)
+            (r .2 ∙ turn-broken (childItem (now (l .before .block .result))) (a .c) (l .loop .i) (walkOf (a .n) (pagesOf (now (a .image)) (a .p) (a .n)) (viewOf (now (a .image)) (a .p) (a .n)) (a .left) false) (upperOf (a .bounded) (now (a .high))) (l .loop .entries) (r .0) _ _ _ _ (k .before .before .before .before .before .before .loop-test .taken) e)
             (c .broken2 .ensures .0),
         λ i e. never-both (c .broken2 .result) _ i (c .broken2 .ensures .0) e,
       )

@@ -76,7 +76,7 @@ returns-2 c =
     let k = c .before .before .before .before .before in
     let a = k .before .before .before .before .before .before .before .args in
     c .refused2 .ensures
-    ∙ judged k _ (met-breach (a .n) (pagesOf (now (a .image)) (a .p) (a .n)) (viewOf (now (a .image)) (a .p) (a .n)) 16 true (a .root) [] none [] _ _ _ (sym (told k) ∙ c .before .before .number .given .1))
+    ∙ judged k _ (met-breach (a .n) (pagesOf (now (a .image)) (a .p) (a .n)) (viewOf (now (a .image)) (a .p) (a .n)) 16 true (a .root) [] none [] _ _ _ _ (sym (told k) ∙ c .before .before .number .given .1))
 
 after-tree-requires : tie.Need-after-tree-requires
 after-tree-requires c κs = sizes (c .before .before .before .before .before .before .before .before)

@@ -92,7 +92,7 @@ returns-5 c =
     c .refused3 .ensures
     ∙ sym
     (whole l
-    ∙ turn-breach (a .n) (viewOf (now (a .image)) (a .p) (a .n)) (now (a .key)) (l .loop .q) (eqb (l .loop .left) 16) (l .loop .left) (omega arith) (within (k .before)) _ _ (sym (k .look-at .ensures) ∙ c .before .before .number .given .1))
+    ∙ turn-breach (a .n) (viewOf (now (a .image)) (a .p) (a .n)) (now (a .key)) (l .loop .q) (eqb (l .loop .left) 16) (l .loop .left) (omega arith) (within (k .before)) _ _ _ (sym (k .look-at .ensures) ∙ c .before .before .number .given .1))
 
 returns-6 : tie.Need-returns-6 Inv-loop μ-loop
 returns-6 c =

@@ -75,8 +75,10 @@ const HEADER: &str =
 const TABLE: &str = "page 10: the count of elements is 0 where it may not be, or more than the block can hold (4)";
 const ELEMENT: &str = "page 4, element 1: this element's key or value is not inside the block, its kind is unknown, \
                        its bucket value is not 16 bytes, or it is a free id that is no page (5)";
-const ORDER: &str = "page 4, element 1: this key (in a freelist, this id) is not above the one before it (6)";
-const RANGE: &str = "page 10, element 0: this key is outside the range that the branches above give its page (7)";
+const ORDER: &str =
+    "page 4, element 1: this key (in a freelist, this id) is not above the one before it, the first byte is the same (6)";
+const RANGE: &str = "page 10, element 0: this key is outside the range that the branches above give its page, \
+                     it has no beginning in common with the end that it crosses (7)";
 const LEAF_AS_FREELIST: &str =
     "page 4: the header is not that of the page wanted: another id, another type, or a block past the last page (3)";
 const FREELIST_HEADER: &str =
@@ -106,7 +108,7 @@ pub fn all() -> Vec<Breach> {
         changed(8, 0, 4, Fault::at_page(Number::Header, 8), HEADER),
         changed(10, 16, 32, Fault::at_page(Number::Table, 10), TABLE),
         changed(4, 32 + 32 + 8, u64::MAX, Fault::at_element(Number::Element, 4, 1), ELEMENT),
-        changed(4, 32 + 32 + 16, 1, Fault::at_element(Number::Order, 4, 1), ORDER),
+        changed(4, 32 + 32 + 16, 1, Fault::at_element(Number::Order, 4, 1).with_common(1), ORDER),
         changed(3, 32 + 24, 10, Fault::at_element(Number::Range, 10, 0), RANGE),
         sized([P, N, ROOT, 4], Fault::at_page(Number::Header, 4), LEAF_AS_FREELIST),
         freelist_in_the_tree(),

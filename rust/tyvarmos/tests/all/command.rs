@@ -76,11 +76,18 @@ fn judge_shows_the_bytes_of_a_breach() {
     assert!(shown(3, None).contains(header));
     assert!(shown(5, Some(1))
         .contains("  element 1, at byte 4160:\n    00001040  00 00 00 00 00 00 00 00 ff ff ff ff ff ff ff ff  "));
-    let before = "  key 0, at byte 4224:\n    00001080  61 62                                            ab\n";
-    let after = "  key 1, at byte 4236:\n    0000108c  61                                               a\n";
-    assert!(shown(6, Some(1)).ends_with(&format!("{before}{after}")));
-    assert!(shown(7, Some(0))
-        .contains("  key 0, at byte 10400:\n    000028a0  73                                               s\n"));
+    let keys = "  key 0, at byte 4224, and key 1, at byte 4236:
+    key 0  00001080  61 62                                            ab
+    key 1  0000108c  61                                               a
+                        ^^                                             ^
+";
+    assert!(shown(6, Some(1)).ends_with(keys));
+    let keys = "  the upper end, element 2 of page 3, at byte 3178, and key 0 of page 10, at byte 10400:
+    the upper end  00000c6a  70                                               p
+    key 0          000028a0  73                                               s
+                             ^^                                               ^
+";
+    assert!(shown(7, Some(0)).ends_with(keys), "{}", shown(7, Some(0)));
     assert!(shown(8, Some(1)).contains("  free id 1, at byte 2088:\n    00000828  0a 00 00 00 00 00 00 00 "));
     assert!(shown(8, None).contains("  its header, at byte 4096:\n"));
     assert!(!shown(2, None).contains("its header"));

@@ -3,7 +3,8 @@
 use std::collections::BTreeMap;
 use std::ffi::OsStr;
 
-use reading::layout::{header, u64_at, BRANCH, LEAF};
+use reading::common::common;
+use reading::layout::{header, u64_at, BRANCH, FREELIST, LEAF};
 
 use crate::damage::damage;
 use crate::example;
@@ -47,10 +48,29 @@ fn check_range(bytes: &[u8], told: &Value, page: u64, element: u64) {
         separator.to_vec()
     };
     let key = key(bytes, page, element);
-    match range["crossed"].text() {
-        "low" => assert!(key < end(&range["low"]).as_slice()),
-        _ => assert!(key >= end(&range["high"]).as_slice()),
+    let crossed = end(&range[range["crossed"].text()]);
+    assert_eq!(range["crossed"].text() == "low", key < crossed.as_slice());
+    assert_eq!(told["common"].number(), Some(common(key, &crossed)));
+    check_keys(told, &[key]);
+}
+
+/// Checks the keys of a fault with 6, which are not told of free ids.
+fn check_order(bytes: &[u8], told: &Value, page: u64, element: u64) {
+    if header(&bytes[(page * P) as usize..]).kind == FREELIST {
+        assert!(told["common"].number() == Some(0) && !told["context"].has("keys"), "{told:?}");
+        return;
     }
+    let (before, key) = (key(bytes, page, element - 1), key(bytes, page, element));
+    assert!(key <= before);
+    assert_eq!(told["common"].number(), Some(common(key, before)));
+    check_keys(told, &[before, key]);
+}
+
+/// Checks that these keys are told.
+fn check_keys(told: &Value, keys: &[&[u8]]) {
+    let digits = |key: &[u8]| key.iter().map(|byte| format!("{byte:02x}")).collect::<String>();
+    let shown: Vec<&str> = told["context"]["keys_hex"].list().iter().map(Value::text).collect();
+    assert_eq!(shown, keys.iter().map(|key| digits(key)).collect::<Vec<_>>());
 }
 
 /// The page that a place names, by the bytes or as the freelist page.
@@ -103,8 +123,10 @@ fn check(bytes: &[u8], told: &Value) -> u64 {
         assert_eq!(first, page, "{told:?}");
     }
     assert_eq!(context.has("cause"), matches!(number, 2..=6 | 8), "{told:?}");
-    if number == 7 {
-        check_range(bytes, told, page, told["element"].number().unwrap());
+    match (number, told["element"].number()) {
+        (6, Some(element)) => check_order(bytes, told, page, element),
+        (7, Some(element)) => check_range(bytes, told, page, element),
+        _ => assert_eq!(told["common"].number(), Some(0)),
     }
     if context.has("header") {
         let start = (first * P) as usize;

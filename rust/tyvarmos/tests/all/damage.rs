@@ -1,13 +1,15 @@
 //! Ways to damage an image.
 
-use reading::layout::{put_u64, u64_at};
+use std::ops::Range;
+
+use reading::layout::{put_u64, u64_at, LEAF};
 
 use crate::rng::Rng;
 
 /// Damages these bytes once to three times.
 pub fn damage(rng: &mut Rng, bytes: &mut [u8], p: usize) {
     for _ in 0..1 + rng.below(3) {
-        match rng.below(10) {
+        match rng.below(11) {
             0 => flip(rng, bytes, p),
             1 | 2 => set_field(rng, bytes, p),
             3 => nudge_field(rng, bytes, p),
@@ -16,6 +18,7 @@ pub fn damage(rng: &mut Rng, bytes: &mut [u8], p: usize) {
             6 => fill(rng, bytes, p),
             7 => lengthen(rng, bytes, p),
             8 => list(rng, bytes, p),
+            9 => liken(rng, bytes, p),
             _ => set_type(rng, bytes, p),
         }
     }
@@ -102,4 +105,27 @@ fn list(rng: &mut Rng, bytes: &mut [u8], p: usize) {
     if let Some(page) = freelist {
         put_u64(bytes, page * p + 32 + 8 * id, listed);
     }
+}
+
+/// Lets a key begin as the one before it, and then be lower.
+fn liken(rng: &mut Rng, bytes: &mut [u8], p: usize) {
+    let start = page(rng, bytes, p);
+    let i = 1 + rng.below(u64_at(bytes, start + 16).clamp(2, 20) as usize - 1);
+    let (Some(before), Some(key)) = (key(bytes, start, i - 1), key(bytes, start, i)) else { return };
+    let most = before.len().min(key.len());
+    let length = rng.below(most + 1);
+    bytes.copy_within(before.start..before.start + length, key.start);
+    if length < most {
+        bytes[key.start + length] = bytes[before.start + length].wrapping_sub(1);
+    }
+}
+
+/// Where the key of an element stands, if that is in these bytes.
+fn key(bytes: &[u8], start: usize, i: usize) -> Option<Range<usize>> {
+    let (size, pos_at, size_at) = if bytes[start + 8] == LEAF { (32, 8, 16) } else { (24, 16, 8) };
+    let at = start + 32 + i * size;
+    let number = |at: usize| bytes.get(at..at + 8).map(|_| u64_at(bytes, at));
+    let from = (at as u64).checked_add(number(at + pos_at)?)?;
+    let end = from.checked_add(number(at + size_at)?)?;
+    (end <= bytes.len() as u64).then_some(from as usize..end as usize)
 }

@@ -1,6 +1,6 @@
 //! Damaged images: the same verdict and the same lookups as the plain reading, and no crash.
 
-use std::collections::BTreeMap;
+use std::collections::{BTreeMap, BTreeSet};
 
 use reading::judge::judge;
 use reading::layout::put_u64;
@@ -14,8 +14,16 @@ use crate::{example, small};
 
 const COUNT_AT: usize = 16;
 
-/// How often each number was given.
-type Numbers = BTreeMap<u64, usize>;
+/// How often each number was given, and the common beginnings that came with it.
+type Numbers = BTreeMap<u64, (usize, BTreeSet<u64>)>;
+
+/// Adds the number of an answer, and its common beginning.
+fn add<T>(numbers: &mut Numbers, answer: Result<T, Fault>) {
+    let (number, common) = answer.map_or_else(|fault| (fault.number.code(), fault.common), |_| (0, 0));
+    let (times, commons) = numbers.entry(number).or_default();
+    *times += 1;
+    commons.insert(common);
+}
 
 /// The numbers of an image: page size, page count, root, freelist page.
 type Sizes = [u64; 4];
@@ -34,7 +42,7 @@ fn plain(fault: Fault) -> reading::Fault {
         _ => assert!(named.0 && fault.number == Number::ReachedTwice),
     }
     let (page, element) = (fault.page.unwrap_or(0), fault.element.unwrap_or(0));
-    reading::Fault { number: fault.number.code(), page, element }
+    reading::Fault { number: fault.number.code(), page, element, common: fault.common }
 }
 
 /// The plain reading's find as the wrapper's.
@@ -55,7 +63,7 @@ fn check_judge(bytes: &[u8], sizes: Sizes, numbers: &mut Numbers) {
         let is_id = page == Some(freelist) && passes_without_ids(bytes, sizes);
         assert_eq!(element.is_some(), is_id, "{sizes:?}");
     }
-    *numbers.entry(judged.map_or_else(|fault| fault.number.code(), |_| 0)).or_default() += 1;
+    add(numbers, judged);
 }
 
 /// Whether the judge passes the image with no free id listed, so that an id was all that it refused.
@@ -76,7 +84,7 @@ fn check_lookup(bytes: &[u8], sizes: Sizes, key: &[u8], numbers: &mut Numbers) {
     if let Ok(sound) = image.judge() {
         assert_eq!(Ok(sound.get(key)), looked, "{sizes:?}, {key:?}");
     }
-    *numbers.entry(looked.map_or_else(|fault| fault.number.code(), |_| 0)).or_default() += 1;
+    add(numbers, looked);
 }
 
 /// The sizes, at times with one of them changed.
@@ -99,7 +107,7 @@ fn cut<'a>(rng: &mut Rng, bytes: &'a [u8]) -> &'a [u8] {
 /// Checks that each of these numbers was given often enough to mean something.
 fn check_seen(numbers: &Numbers, wanted: impl Iterator<Item = u64>) {
     for number in wanted {
-        let times = numbers.get(&number).copied().unwrap_or(0);
+        let times = numbers.get(&number).map_or(0, |(times, _)| *times);
         assert!(times >= 20, "number {number} was given {times} times: {numbers:?}");
     }
 }
@@ -150,6 +158,8 @@ fn damaged_copies_of_the_example() {
     }
     check_seen(&judged, [0, 3, 4, 5, 6, 7, 8].into_iter());
     check_seen(&looked, [0, 3, 5].into_iter());
+    let commons = [&judged[&6], &judged[&7], &looked[&6]].map(|(_, commons)| commons.len());
+    assert!(commons.iter().all(|count| *count >= 10), "{commons:?}");
 }
 
 #[test]

@@ -19,6 +19,7 @@ mod meta_pages;
 mod names;
 mod overlap;
 mod papers;
+mod parting;
 mod probe;
 mod rng;
 mod scope;

@@ -110,6 +110,19 @@ fn the_examples_share_a_page_and_show_it_named() {
 }
 
 #[test]
+fn the_examples_change_a_separator_and_show_where_it_parts_from_a_key() {
+    let examples = paper("examples/README.md");
+    let (at, byte) = byte_put(&examples, "parted.db");
+    let done = judged_with((at, byte), &examples, "parted.db");
+    assert_eq!((done.status, example()[at], byte), (2, b'6', b'7'));
+    let shown = shown(&examples, "parted.db: ");
+    check_shown(&shown, &done);
+    assert!(done.text().ends_with(&format!("{}\n", shown[shown.len() - 4..].join("\n"))), "{}", done.text());
+    let found = judged_by(&["get", "parted.db", "--bucket", "accounts", "account-0136"], (at, byte), "parted.db");
+    assert_eq!(found.status, 1, "{}", found.err);
+}
+
+#[test]
 fn the_examples_say_how_many_pages_the_map_takes() {
     let bytes = example();
     let world = Image::of_file(&bytes).unwrap().bucket(b"world").unwrap().unwrap().tree();

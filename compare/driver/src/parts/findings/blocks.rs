@@ -42,7 +42,7 @@ fn replacement_out_of_order(run: &mut Run) {
     run.tally
         .same(stored, Some(write_content(&branch(&[("b", 7), ("a", 9)]), P, 2, 0)), || "finding 2, the crate".into());
     let change = Branch { original: Some(b"d"), key: b"a", child: 9 };
-    let got = ask::<3>(|answer| run.subject.insert_branch(&block, P, change, &mut [0; 1_024], answer));
+    let got = ask::<4>(|answer| run.subject.insert_branch(&block, P, change, &mut [0; 1_024], answer));
     run.tally.same(got.number, 14, || "finding 2".into());
 }
 
@@ -53,7 +53,7 @@ fn branch_to_meta(run: &mut Run) {
     run.tally
         .same(stored, Some(write_content(&branch(&[("b", 7), ("c", 1)]), P, 2, 0)), || "finding 3, the crate".into());
     let change = Branch { original: None, key: b"c", child: 1 };
-    let got = ask::<3>(|answer| run.subject.insert_branch(&block, P, change, &mut [0; 1_024], answer));
+    let got = ask::<4>(|answer| run.subject.insert_branch(&block, P, change, &mut [0; 1_024], answer));
     run.tally.same(got.number, 11, || "finding 3".into());
 }
 
@@ -62,7 +62,7 @@ fn large_node(run: &mut Run) {
     let item = Item { tag: 0, key: Vec::new(), value: vec![0; 1_048_505] };
     let block = write_content(&Content { leaf: true, items: vec![item] }, P, 2, 0);
     run.tally.same((edit::size(&block, P), get(&block, 24)), (1_048_577, 1_024), || "finding 4, the crate".into());
-    let got = ask::<5>(|answer| run.subject.size(&block, P, answer));
+    let got = ask::<6>(|answer| run.subject.size(&block, P, answer));
     run.tally.same(got.number, 15, || "finding 4".into());
 }
 
@@ -74,7 +74,7 @@ fn short_bucket_value(run: &mut Run) {
     run.tally.same(search::val(&block, P, 0), [Some(Some(item.clone())), Some(Some(item))], || {
         "finding 5, the crate".into()
     });
-    let got = ask::<4>(|answer| run.subject.index(&block, P, &[5], answer));
+    let got = ask::<5>(|answer| run.subject.index(&block, P, &[5], answer));
     run.tally.same((got.number, got.fields[3]), (5, 0), || "finding 5".into());
 }
 
@@ -82,8 +82,8 @@ fn short_bucket_value(run: &mut Run) {
 fn missing_child(run: &mut Run) {
     let image = [vec![0; 2_048], write_content(&branch(&[("b", 0)]), P, 2, 0)].concat();
     run.tally.same(Image::new(&image, P).get(2, b"b"), None, || "finding 6, the crate".into());
-    let got = ask::<6>(|answer| run.subject.lookup(&image, P, 3, 2, b"b", answer));
-    run.tally.same((got.number, got.fields), (2, [0; 6]), || "finding 6".into());
+    let got = ask::<7>(|answer| run.subject.lookup(&image, P, 3, 2, b"b", answer));
+    run.tally.same((got.number, got.fields), (2, [0; 7]), || "finding 6".into());
 }
 
 /// 7. An empty page below the root, or an empty branch, holds no key; 01's lookup says 4.
@@ -92,8 +92,8 @@ fn empty_below_root(run: &mut Run) {
     for (root, page, kind) in [(2, 3, 2), (2, 3, 1), (3, 3, 1)] {
         put_header(&mut image[3_072..], 3, kind, 0, 0);
         run.tally.same(Image::new(&image, P).get(root, b"b"), None, || "finding 7, the crate".into());
-        let got = ask::<6>(|answer| run.subject.lookup(&image, P, 4, root, b"b", answer));
-        run.tally.same((got.number, got.fields), (4, [0, 0, 0, 0, page, 0]), || "finding 7".into());
+        let got = ask::<7>(|answer| run.subject.lookup(&image, P, 4, root, b"b", answer));
+        run.tally.same((got.number, got.fields), (4, [0, 0, 0, 0, page, 0, 0]), || "finding 7".into());
     }
 }
 
@@ -104,7 +104,7 @@ fn empty_branch(run: &mut Run) {
     let stored = edit::insert_branch(&block, P, None, b"b", 7, 0);
     run.tally.same(stored, Some(write_content(&branch(&[("b", 7)]), P, 2, 0)), || "finding 19, the crate".into());
     let change = Branch { original: None, key: b"b", child: 7 };
-    let got = ask::<3>(|answer| run.subject.insert_branch(&block, P, change, &mut [0; 1_024], answer));
+    let got = ask::<4>(|answer| run.subject.insert_branch(&block, P, change, &mut [0; 1_024], answer));
     run.tally.same(got.number, 4, || "finding 19".into());
 }
 
@@ -112,25 +112,25 @@ fn empty_branch(run: &mut Run) {
 fn keys_out_of_order(run: &mut Run) {
     let block = write_content(&branch(&[("b", 7), ("d", 8), ("a", 9)]), P, 2, 0);
     run.tally.same(search::index(&block, P, b"a"), [(0, false); 2], || "finding 20, the crate".into());
-    let got = ask::<4>(|answer| run.subject.index(&block, P, b"a", answer));
-    run.tally.same((got.number, got.fields), (6, [0, 0, 0, 2]), || "finding 20".into());
+    let got = ask::<5>(|answer| run.subject.index(&block, P, b"a", answer));
+    run.tally.same((got.number, got.fields), (6, [0, 0, 0, 2, 0]), || "finding 20".into());
 }
 
 /// 21. Any page size, page count and depth is taken; 01 has limits.
 fn limits(run: &mut Run) {
     let block = write_content(&branch(&[("b", 7)]), 131_072, 2, 0);
     run.tally.same(search::index(&block, 131_072, b"b"), [(0, true); 2], || "finding 21, a page of the crate".into());
-    let got = ask::<4>(|answer| run.subject.index(&block, 131_072, b"b", answer));
-    run.tally.same((got.number, got.fields), (1, [0; 4]), || "finding 21, page size".into());
+    let got = ask::<5>(|answer| run.subject.index(&block, 131_072, b"b", answer));
+    run.tally.same((got.number, got.fields), (1, [0; 5]), || "finding 21, page size".into());
 
     let image = chain(17);
     run.tally.check(Image::new(&image, P).get(2, b"b").is_some(), || "finding 21, 17 levels of the crate".into());
-    let got = ask::<6>(|answer| run.subject.lookup(&image, P, 19, 2, b"b", answer));
-    run.tally.same((got.number, got.fields), (9, [0, 0, 0, 0, 18, 0]), || "finding 21, levels".into());
+    let got = ask::<7>(|answer| run.subject.lookup(&image, P, 19, 2, b"b", answer));
+    run.tally.same((got.number, got.fields), (9, [0, 0, 0, 0, 18, 0, 0]), || "finding 21, levels".into());
 
     let image = [chain(2), vec![0; 32_765 * 1_024]].concat();
     for (n, number) in [(32_768, 0), (32_769, 1)] {
-        let got = ask::<6>(|answer| run.subject.lookup(&image, P, n, 2, b"b", answer));
+        let got = ask::<7>(|answer| run.subject.lookup(&image, P, n, 2, b"b", answer));
         run.tally.same(got.number, number, || format!("finding 21, {n} pages"));
     }
 }

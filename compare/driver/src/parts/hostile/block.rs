@@ -5,21 +5,23 @@ use subject::{ask, Branch, Leaf, Subject};
 
 use super::{change, Seen};
 use crate::by_reading::Reading;
+use crate::make::parting::disorder;
 use crate::make::{self, block, content};
 use crate::parts::{kept, Run, FILLER};
 use crate::rng::Rng;
 
-const CALLS: [&str; 10] = [
-    "index",
-    "index_page",
-    "size",
-    "insert",
-    "delete",
-    "insert_branch",
-    "a replacement",
-    "split",
-    "split_write",
-    "entry",
+/// Each call, and how many fields its answer has.
+const CALLS: [(&str, usize); 10] = [
+    ("index", 5),
+    ("index_page", 4),
+    ("size", 6),
+    ("insert", 4),
+    ("delete", 9),
+    ("insert_branch", 4),
+    ("a replacement", 4),
+    ("split", 4),
+    ("split_write", 5),
+    ("entry", 9),
 ];
 
 /// A block and the arguments for every call on it.
@@ -37,16 +39,16 @@ struct Question {
 #[derive(Clone, Debug, PartialEq)]
 struct Left {
     number: u64,
-    fields: [u64; 8],
+    fields: [u64; 9],
     out: Vec<u8>,
     list: Vec<u64>,
 }
 
 pub fn run(run: &mut Run, round: usize, seen: &mut Seen) {
     let question = question(&mut run.rng);
-    for (call, name) in CALLS.iter().enumerate() {
+    for (call, (name, fields)) in CALLS.iter().enumerate() {
         let expected = question.asked(&Reading, call);
-        seen[expected.number as usize] += 1;
+        seen.add(expected.number, expected.fields[fields - 1]);
         let unchanged = kept(&expected.out) && expected.list.iter().all(|word| *word == u64::MAX);
         run.tally.check(expected.number == 0 || unchanged, || format!("round {round}: {name} changed what is lent"));
         run.tally
@@ -61,6 +63,9 @@ fn question(rng: &mut Rng) -> Question {
     let (mut block, content) = block::sound(rng, leaf, p);
     for _ in 0..rng.below(3) {
         change(rng, &mut block, 0, 20);
+    }
+    if rng.one_in(3) {
+        disorder(rng, &mut block, 0);
     }
     let key = key(rng, &content);
     let mut entry = content::item(rng, true, key.clone(), p);

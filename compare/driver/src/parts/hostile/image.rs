@@ -8,6 +8,7 @@ use crate::make::content;
 use crate::make::fields::{get, put};
 use crate::make::image::{Image, Span};
 use crate::make::overlap::overlap;
+use crate::make::parting::part;
 use crate::make::tree::{self, Tree};
 use crate::parts::tree::looked;
 use crate::parts::Run;
@@ -25,16 +26,18 @@ pub fn run(run: &mut Run, round: usize, seen: &mut Seen) {
     }
 }
 
-/// One or two changes: to a field, a page named, the freelist page or blocks, which then overlap; or to the geometry.
+/// One or two changes: to a field, a page named, the freelist page, keys, which then begin alike, or blocks, which then
+/// overlap; or to the geometry.
 fn disturb(rng: &mut Rng, image: &mut Image, spans: &[Span]) {
     for _ in 0..rng.between(1, 2) {
         let (at, other) = (image.start(rng.pick(spans).0), rng.pick(spans).0);
-        match rng.below(14) {
+        match rng.below(20) {
             0 => image.root = other,
             1 => image.freelist = other,
             2 => put(&mut image.bytes, at + 32, other),
             3 => shift_key(&mut image.bytes, at),
             4..=6 => overlap(rng, image, spans),
+            7..=12 => part(rng, image, spans),
             _ => change(rng, &mut image.bytes, at, image.n),
         }
     }
@@ -58,7 +61,7 @@ fn shift_key(image: &mut [u8], at: usize) {
 
 fn judge(run: &mut Run, round: usize, image: &Image, seen: &mut Seen) {
     let expected = image.judged(&Reading);
-    seen[expected.number as usize] += 1;
+    seen.add(expected.number, expected.fields[4]);
     let what = || format!("round {round}: judge, P {} N {}", image.p, image.n);
     run.tally.same(image.judged(run.subject), expected, what);
 }
@@ -68,7 +71,7 @@ fn lookups(run: &mut Run, round: usize, image: &Image, keys: &[Vec<u8>], seen: &
     let by_crate = search::Image::new(bytes, *p);
     for key in content::questions(&mut run.rng, keys, 3) {
         let expected = image.looked(&Reading, &key);
-        seen[expected.number as usize] += 1;
+        seen.add(expected.number, expected.fields[6]);
         let what = || format!("round {round}: lookup of {key:?}, P {p} N {n}");
         run.tally.same(image.looked(run.subject, &key), expected, what);
         if expected.number == 0 {

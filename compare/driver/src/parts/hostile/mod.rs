@@ -5,22 +5,36 @@ mod block;
 mod image;
 mod table;
 
+use super::commons::Commons;
 use super::Run;
 use crate::make::fields::{get, put};
 use crate::rng::Rng;
 
-/// How often each number was given back.
-type Seen = [u64; 16];
+/// How often each number was given back, and which common beginnings came with 6 and 7.
+#[derive(Default)]
+struct Seen {
+    numbers: [u64; 16],
+    commons: Commons,
+}
+
+impl Seen {
+    /// Adds a number, and the last field that came with it.
+    fn add(&mut self, number: u64, common: u64) {
+        self.numbers[number as usize] += 1;
+        self.commons.add(number, common);
+    }
+}
 
 pub fn run(run: &mut Run) {
-    let mut seen = [0; 16];
+    let mut seen = Seen::default();
     for round in 0..run.rounds {
         image::run(run, round, &mut seen);
         (0..4).for_each(|_| block::run(run, round, &mut seen));
         table::run(run, round, &mut seen);
     }
-    let seen: Vec<String> = seen.iter().enumerate().map(|(number, times)| format!("{number}: {times}")).collect();
-    println!("  numbers given back in the part hostile: {}", seen.join(", "));
+    let numbers = seen.numbers.iter().enumerate().map(|(number, times)| format!("{number}: {times}"));
+    println!("  numbers given back in the part hostile: {}", numbers.collect::<Vec<_>>().join(", "));
+    seen.commons.tell(run);
 }
 
 /// Changes a number or a byte of the block that starts at `at`.

@@ -26,7 +26,7 @@ pub fn run(run: &mut Run, round: usize, seen: &mut Seen) {
     let question = question(&mut run.rng);
     for (call, name) in CALLS.iter().enumerate() {
         let expected = question.asked(&Reading, call);
-        seen[expected.0 as usize] += 1;
+        seen.add(expected.0, 0);
         run.tally.check(question.asked(run.subject, call) == expected, || {
             format!("round {round}: {name}, N {}", question.n)
         });

@@ -1,7 +1,7 @@
 //! Single lent blocks that a search, an edit or a split refuses, whichever call it is.
 
 use oracle::probe::{write_content, Content, Item};
-use subject::{ask, Branch, Leaf, Subject};
+use subject::{ask, Answer, Branch, Leaf, Subject};
 
 use super::Run;
 use crate::make::fields::put;
@@ -9,8 +9,8 @@ use crate::parts::{kept, FILLER};
 
 const P: u64 = 1_024;
 
-/// Number and element.
-type Fault = (u64, u64);
+/// Number, element and common beginning.
+pub type Fault = (u64, u64, u64);
 
 /// A leaf of b and c, or a branch of them, in one page.
 fn block(leaf: bool) -> Vec<u8> {
@@ -30,14 +30,14 @@ fn lengths(run: &mut Run, leaf: bool) {
     let block = block(leaf);
     let two = [block.clone(), block.clone()].concat();
     for p in [0, 1_016, 1_020, 65_544, u64::MAX] {
-        every_call(run, &block, p, (1, 0));
+        every_call(run, &block, p, (1, 0, 0));
     }
-    every_call(run, &[], P, (1, 0));
-    every_call(run, &block[1..], P, (1, 0));
-    every_call(run, &two[1..], P, (1, 0));
-    every_call(run, &block, 2 * P, (1, 0));
-    every_call(run, &two, P, (3, 0));
-    every_call(run, &two, 2 * P, (0, 0));
+    every_call(run, &[], P, (1, 0, 0));
+    every_call(run, &block[1..], P, (1, 0, 0));
+    every_call(run, &two[1..], P, (1, 0, 0));
+    every_call(run, &block, 2 * P, (1, 0, 0));
+    every_call(run, &two, P, (3, 0, 0));
+    every_call(run, &two, 2 * P, (0, 0, 0));
 }
 
 fn contents(run: &mut Run, leaf: bool) {
@@ -46,19 +46,19 @@ fn contents(run: &mut Run, leaf: bool) {
     let data = 32 + 2 * size;
     let fitting = (1_024 - 32) / size as u64;
     let cases: [(&[(usize, u64)], Fault); 13] = [
-        (&[(0, 99)], (0, 0)),
-        (&[(8, 0)], (3, 0)),
-        (&[(8, 3)], (3, 0)),
-        (&[(8, 4)], (3, 0)),
-        (&[(24, 1)], (3, 0)),
-        (&[(24, u64::MAX)], (3, 0)),
-        (&[(16, fitting + 1)], (4, 0)),
-        (&[(16, u64::MAX)], (4, 0)),
-        (&[(16, fitting)], (5, 0)),
-        (&[(second + pos, size as u64 - 1)], (5, 1)),
-        (&[(second + pos, u64::MAX)], (5, 1)),
-        (&[(second + key_size, u64::MAX - 20)], (5, 1)),
-        (&[(data, 0x62_63)], (6, 1)),
+        (&[(0, 99)], (0, 0, 0)),
+        (&[(8, 0)], (3, 0, 0)),
+        (&[(8, 3)], (3, 0, 0)),
+        (&[(8, 4)], (3, 0, 0)),
+        (&[(24, 1)], (3, 0, 0)),
+        (&[(24, u64::MAX)], (3, 0, 0)),
+        (&[(16, fitting + 1)], (4, 0, 0)),
+        (&[(16, u64::MAX)], (4, 0, 0)),
+        (&[(16, fitting)], (5, 0, 0)),
+        (&[(second + pos, size as u64 - 1)], (5, 1, 0)),
+        (&[(second + pos, u64::MAX)], (5, 1, 0)),
+        (&[(second + key_size, u64::MAX - 20)], (5, 1, 0)),
+        (&[(data, 0x62_63)], (6, 1, 0)),
     ];
     for (change, fault) in cases {
         let mut block = block(leaf);
@@ -67,50 +67,45 @@ fn contents(run: &mut Run, leaf: bool) {
     }
     let mut empty = block(leaf);
     put(&mut empty, 16, 0);
-    every_call(run, &empty, P, if leaf { (0, 0) } else { (4, 0) });
+    every_call(run, &empty, P, if leaf { (0, 0, 0) } else { (4, 0, 0) });
 }
 
-/// Each call on this block gives the fault, and none changes what is lent; (0, 0) is for a block they all take.
-fn every_call(run: &mut Run, block: &[u8], p: u64, fault: Fault) {
+/// Each call on this block gives the fault, and none changes what is lent; (0, 0, 0) is for a block they all take.
+pub fn every_call(run: &mut Run, block: &[u8], p: u64, fault: Fault) {
     let subject = run.subject;
     let mut out = vec![FILLER; 4_096];
     let mut cuts = vec![u64::MAX; 4];
     let numbers = calls(subject, block, p, &mut out, &mut cuts);
-    let (number, element) = fault;
-    if number == 0 {
-        let taken = numbers.iter().all(|(number, _)| ![1, 3, 4, 5, 6].contains(number));
+    if fault.0 == 0 {
+        let taken = numbers.iter().all(|(number, ..)| ![1, 3, 4, 5, 6].contains(number));
         run.tally.check(taken, || format!("a block taken, P {p}: {numbers:?}"));
         return;
     }
     let unchanged = kept(&out) && cuts.iter().all(|cut| *cut == u64::MAX);
-    let expected = vec![(number, element); numbers.len()];
+    let expected = vec![fault; numbers.len()];
     run.tally.same((numbers, unchanged), (expected, true), || {
         format!("P {p}, {} bytes {:?}..", block.len(), &block[..block.len().min(100)])
     });
 }
 
-/// Number and element of every call that reads a block.
-fn calls(subject: &dyn Subject, block: &[u8], p: u64, out: &mut [u8], cuts: &mut [u64]) -> Vec<(u64, u64)> {
+/// What every call that reads a block says of it.
+fn calls(subject: &dyn Subject, block: &[u8], p: u64, out: &mut [u8], cuts: &mut [u64]) -> Vec<Fault> {
     let leaf = Leaf { key: b"d", kind: 0, value: b"" };
     let branch = Branch { original: None, key: b"d", child: 9 };
-    let index = ask::<4>(|answer| subject.index(block, p, b"b", answer));
-    let page = ask::<3>(|answer| subject.index_page(block, p, 0, answer));
-    let entry = ask::<8>(|answer| subject.entry(block, p, 0, answer));
-    let size = ask::<5>(|answer| subject.size(block, p, answer));
-    let insert = ask::<3>(|answer| subject.insert(block, p, leaf, out, answer));
-    let delete = ask::<8>(|answer| subject.delete(block, p, 0, out, answer));
-    let insert_branch = ask::<3>(|answer| subject.insert_branch(block, p, branch, out, answer));
-    let split = ask::<3>(|answer| subject.split(block, p, cuts, answer));
-    let write = ask::<4>(|answer| subject.split_write(block, p, 20, &[5], out, answer));
     vec![
-        (index.number, index.fields[3]),
-        (page.number, page.fields[2]),
-        (entry.number, entry.fields[7]),
-        (size.number, size.fields[4]),
-        (insert.number, insert.fields[2]),
-        (delete.number, delete.fields[7]),
-        (insert_branch.number, insert_branch.fields[2]),
-        (split.number, split.fields[2]),
-        (write.number, write.fields[3]),
+        fault(ask::<5>(|answer| subject.index(block, p, b"b", answer))),
+        fault(ask::<4>(|answer| subject.index_page(block, p, 0, answer))),
+        fault(ask::<9>(|answer| subject.entry(block, p, 0, answer))),
+        fault(ask::<6>(|answer| subject.size(block, p, answer))),
+        fault(ask::<4>(|answer| subject.insert(block, p, leaf, out, answer))),
+        fault(ask::<9>(|answer| subject.delete(block, p, 0, out, answer))),
+        fault(ask::<4>(|answer| subject.insert_branch(block, p, branch, out, answer))),
+        fault(ask::<4>(|answer| subject.split(block, p, cuts, answer))),
+        fault(ask::<5>(|answer| subject.split_write(block, p, 20, &[5], out, answer))),
     ]
+}
+
+/// The number of an answer, and its last two fields.
+fn fault<const F: usize>(answer: Answer<F>) -> Fault {
+    (answer.number, answer.fields[F - 2], answer.fields[F - 1])
 }

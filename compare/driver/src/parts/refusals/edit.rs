@@ -28,7 +28,7 @@ pub fn run(run: &mut Run) {
 /// Checks the number of a call with this much output, and that a refusal changes nothing.
 fn numbered(run: &mut Run, number: u64, room: usize, what: &str, call: impl FnOnce(&mut [u8], &mut [u8]) -> u64) {
     let mut out = vec![FILLER; room];
-    let got = ask::<8>(|answer| call(&mut out, answer));
+    let got = ask::<9>(|answer| call(&mut out, answer));
     run.tally.same((got.number, number == 0 || kept(&out)), (number, true), || what.into());
 }
 

@@ -18,8 +18,8 @@ const FREE: usize = 5 * 1_024;
 
 /// A change: so many numbers put at these places.
 type Change<'a> = &'a [(usize, u64)];
-/// Number, page and element.
-type Fault = (u64, u64, u64);
+/// Number, page, element and common beginning.
+type Fault = (u64, u64, u64, u64);
 
 /// Root 2 with b to leaf 3 (b, c) and m to leaf 4 (m, and z a bucket); freelist 5 with 6, 7 and 9.
 fn sound() -> Vec<u8> {
@@ -46,14 +46,14 @@ pub fn run(run: &mut Run) {
 }
 
 fn judged(run: &mut Run, image: &[u8], (p, n): (u64, u64), root: u64, freelist: u64, fault: Fault) {
-    let got = ask::<4>(|answer| run.subject.judge(image, p, n, root, freelist, answer));
-    let expected = (fault.0, [0, 0, fault.1, fault.2]);
+    let got = ask::<5>(|answer| run.subject.judge(image, p, n, root, freelist, answer));
+    let expected = (fault.0, [0, 0, fault.1, fault.2, fault.3]);
     run.tally.same((got.number, got.fields), expected, || format!("judge P {p} N {n} root {root} freelist {freelist}"));
 }
 
 fn looked(run: &mut Run, image: &[u8], (p, n): (u64, u64), root: u64, key: &str, fault: Fault) {
-    let got = ask::<6>(|answer| run.subject.lookup(image, p, n, root, key.as_bytes(), answer));
-    let expected = (fault.0, [0, 0, 0, 0, fault.1, fault.2]);
+    let got = ask::<7>(|answer| run.subject.lookup(image, p, n, root, key.as_bytes(), answer));
+    let expected = (fault.0, [0, 0, 0, 0, fault.1, fault.2, fault.3]);
     run.tally.same((got.number, got.fields), expected, || format!("lookup {key} P {p} N {n} root {root}"));
 }
 
@@ -72,28 +72,28 @@ fn geometry(run: &mut Run) {
         (P, 32_769),
         (P, MAX),
     ] {
-        judged(run, &image, size, 0, 0, (1, 0, 0));
-        looked(run, &image, size, 0, "b", (1, 0, 0));
+        judged(run, &image, size, 0, 0, (1, 0, 0, 0));
+        looked(run, &image, size, 0, "b", (1, 0, 0, 0));
     }
-    judged(run, &image[1..], (P, N), 2, 5, (1, 0, 0));
+    judged(run, &image[1..], (P, N), 2, 5, (1, 0, 0, 0));
     let longer = [image, vec![7; 3]].concat();
-    let got = ask::<4>(|answer| run.subject.judge(&longer, P, N, 2, 5, answer));
-    run.tally.same((got.number, got.fields), (0, [4, 4, 0, 0]), || "the sound image".into());
+    let got = ask::<5>(|answer| run.subject.judge(&longer, P, N, 2, 5, answer));
+    run.tally.same((got.number, got.fields), (0, [4, 4, 0, 0, 0]), || "the sound image".into());
 }
 
 fn roots(run: &mut Run) {
     let image = sound();
     for root in [0, 1, 10, 32_768, MAX] {
-        judged(run, &image, (P, N), root, 5, (2, root, 0));
-        looked(run, &image, (P, N), root, "b", (2, root, 0));
-        judged(run, &image, (P, N), 2, root, (2, root, 0));
+        judged(run, &image, (P, N), root, 5, (2, root, 0, 0));
+        looked(run, &image, (P, N), root, "b", (2, root, 0, 0));
+        judged(run, &image, (P, N), 2, root, (2, root, 0, 0));
     }
     for root in [5, 6] {
-        judged(run, &image, (P, N), root, 5, (3, root, 0));
-        looked(run, &image, (P, N), root, "b", (3, root, 0));
+        judged(run, &image, (P, N), root, 5, (3, root, 0, 0));
+        looked(run, &image, (P, N), root, "b", (3, root, 0, 0));
     }
     for freelist in [3, 6] {
-        judged(run, &image, (P, N), 2, freelist, (3, freelist, 0));
+        judged(run, &image, (P, N), 2, freelist, (3, freelist, 0, 0));
     }
 }
 
@@ -101,33 +101,33 @@ fn roots(run: &mut Run) {
 fn pages(run: &mut Run) {
     let (pos, key_size, value_size) = (LEFT + 40, LEFT + 48, LEFT + 56);
     let cases: [(Change, Fault); 27] = [
-        (&[(ROOT + 32, 1)], (2, 1, 0)),
-        (&[(ROOT + 32, MAX)], (2, MAX, 0)),
-        (&[(LEFT, 4)], (3, 3, 0)),
-        (&[(LEFT + 8, 3)], (3, 3, 0)),
-        (&[(LEFT + 8, 4)], (3, 3, 0)),
-        (&[(LEFT + 24, 7)], (3, 3, 0)),
-        (&[(LEFT + 24, MAX)], (3, 3, 0)),
-        (&[(LEFT + 24, MAX - 2)], (3, 3, 0)),
-        (&[(LEFT + 16, 0)], (4, 3, 0)),
-        (&[(ROOT + 16, 0)], (4, 2, 0)),
-        (&[(LEFT + 16, 32)], (4, 3, 0)),
-        (&[(LEFT + 16, 1 << 59)], (4, 3, 0)),
-        (&[(LEFT + 16, MAX)], (4, 3, 0)),
-        (&[(LEFT + 16, 31)], (5, 3, 0)),
-        (&[(pos, 63)], (5, 3, 0)),
-        (&[(pos, 0)], (5, 3, 0)),
-        (&[(pos, 1_024 - 32 - 1)], (5, 3, 0)),
-        (&[(pos, MAX)], (5, 3, 0)),
-        (&[(pos, 70), (key_size, MAX - 60)], (5, 3, 0)),
-        (&[(value_size, MAX - 90)], (5, 3, 0)),
-        (&[(value_size, 928)], (5, 3, 0)),
-        (&[(LEFT + 64, 2)], (5, 3, 1)),
-        (&[(LEFT + 64, 1)], (5, 3, 1)),
-        (&[(LEFT + 96, 0x61_31_62)], (6, 3, 1)),
-        (&[(LEFT + 96, 0x62_31_62)], (6, 3, 1)),
-        (&[(LEFT + 96, 0x62_31_62), (LEFT + 64, 2)], (5, 3, 1)),
-        (&[(LEFT + 64, 2), (LEFT + 8, 9)], (3, 3, 0)),
+        (&[(ROOT + 32, 1)], (2, 1, 0, 0)),
+        (&[(ROOT + 32, MAX)], (2, MAX, 0, 0)),
+        (&[(LEFT, 4)], (3, 3, 0, 0)),
+        (&[(LEFT + 8, 3)], (3, 3, 0, 0)),
+        (&[(LEFT + 8, 4)], (3, 3, 0, 0)),
+        (&[(LEFT + 24, 7)], (3, 3, 0, 0)),
+        (&[(LEFT + 24, MAX)], (3, 3, 0, 0)),
+        (&[(LEFT + 24, MAX - 2)], (3, 3, 0, 0)),
+        (&[(LEFT + 16, 0)], (4, 3, 0, 0)),
+        (&[(ROOT + 16, 0)], (4, 2, 0, 0)),
+        (&[(LEFT + 16, 32)], (4, 3, 0, 0)),
+        (&[(LEFT + 16, 1 << 59)], (4, 3, 0, 0)),
+        (&[(LEFT + 16, MAX)], (4, 3, 0, 0)),
+        (&[(LEFT + 16, 31)], (5, 3, 0, 0)),
+        (&[(pos, 63)], (5, 3, 0, 0)),
+        (&[(pos, 0)], (5, 3, 0, 0)),
+        (&[(pos, 1_024 - 32 - 1)], (5, 3, 0, 0)),
+        (&[(pos, MAX)], (5, 3, 0, 0)),
+        (&[(pos, 70), (key_size, MAX - 60)], (5, 3, 0, 0)),
+        (&[(value_size, MAX - 90)], (5, 3, 0, 0)),
+        (&[(value_size, 928)], (5, 3, 0, 0)),
+        (&[(LEFT + 64, 2)], (5, 3, 1, 0)),
+        (&[(LEFT + 64, 1)], (5, 3, 1, 0)),
+        (&[(LEFT + 96, 0x61_31_62)], (6, 3, 1, 0)),
+        (&[(LEFT + 96, 0x62_31_62)], (6, 3, 1, 1)),
+        (&[(LEFT + 96, 0x62_31_62), (LEFT + 64, 2)], (5, 3, 1, 0)),
+        (&[(LEFT + 64, 2), (LEFT + 8, 9)], (3, 3, 0, 0)),
     ];
     for (change, fault) in cases {
         let image = changed(change);
@@ -136,8 +136,8 @@ fn pages(run: &mut Run) {
     }
     let mut whole = changed(&[(ROOT + 32, 6), (LEFT, 6), (LEFT + 24, 3), (value_size, 3_999), (FREE + 16, 0)]);
     whole.copy_within(LEFT..RIGHT, 6 * 1_024);
-    let got = ask::<4>(|answer| run.subject.judge(&whole, P, N, 2, 5, answer));
-    run.tally.same((got.number, got.fields), (0, [4, 7, 0, 0]), || "a block up to the last page".into());
+    let got = ask::<5>(|answer| run.subject.judge(&whole, P, N, 2, 5, answer));
+    run.tally.same((got.number, got.fields), (0, [4, 7, 0, 0, 0]), || "a block up to the last page".into());
 }
 
 fn changed(change: Change) -> Vec<u8> {
@@ -149,19 +149,19 @@ fn changed(change: Change) -> Vec<u8> {
 /// Breaches that only the judge looks for: lookup of c still finds it.
 fn ranges(run: &mut Run) {
     let cases: [(Change, Fault); 5] = [
-        (&[(LEFT + 96, 0x32_32_63_31_61)], (7, 3, 0)),
-        (&[(LEFT + 96, 0x63_31_62), (ROOT + 80, 0x63_62)], (7, 3, 1)),
-        (&[(RIGHT + 96, 0x7A_33_6C)], (7, 4, 0)),
-        (&[(ROOT + 56, 3)], (8, 3, 0)),
-        (&[(ROOT + 56, 2)], (8, 2, 0)),
+        (&[(LEFT + 96, 0x32_32_63_31_61)], (7, 3, 0, 0)),
+        (&[(LEFT + 96, 0x63_31_62), (ROOT + 80, 0x63_62)], (7, 3, 1, 1)),
+        (&[(RIGHT + 96, 0x7A_33_6C)], (7, 4, 0, 0)),
+        (&[(ROOT + 56, 3)], (8, 3, 0, 0)),
+        (&[(ROOT + 56, 2)], (8, 2, 0, 0)),
     ];
     for (change, fault) in cases {
         let image = changed(change);
         judged(run, &image, (P, N), 2, 5, fault);
     }
     let image = changed(&[(LEFT + 96, 0x32_32_63_31_61), (ROOT + 56, 2)]);
-    let got = ask::<6>(|answer| run.subject.lookup(&image, P, N, 2, b"c", answer));
-    run.tally.same((got.number, got.fields), (0, [1, 0, LEFT as u64 + 99, 2, 0, 0]), || "lookup of c".into());
+    let got = ask::<7>(|answer| run.subject.lookup(&image, P, N, 2, b"c", answer));
+    run.tally.same((got.number, got.fields), (0, [1, 0, LEFT as u64 + 99, 2, 0, 0, 0]), || "lookup of c".into());
     nested_range(run);
 }
 
@@ -173,32 +173,32 @@ fn nested_range(run: &mut Run) {
     let leaf = Content { leaf: true, items: vec![item(0, "c"), item(0, "m")] };
     image[LEFT..RIGHT].copy_from_slice(&write_content(&branch, P, 3, 0));
     image[6 * 1_024..7 * 1_024].copy_from_slice(&write_content(&leaf, P, 6, 0));
-    judged(run, &image, (P, N), 2, 5, (7, 6, 1));
+    judged(run, &image, (P, N), 2, 5, (7, 6, 1, 1));
 }
 
 fn freelist(run: &mut Run) {
     let cases: [(Change, Fault); 15] = [
-        (&[(FREE, 6)], (3, 5, 0)),
-        (&[(FREE + 8, 2)], (3, 5, 0)),
-        (&[(FREE + 24, 5)], (3, 5, 0)),
-        (&[(FREE + 16, 125)], (4, 5, 0)),
-        (&[(FREE + 16, 1 << 61)], (4, 5, 0)),
-        (&[(FREE + 16, 124)], (5, 5, 3)),
-        (&[(FREE + 32, 1)], (5, 5, 0)),
-        (&[(FREE + 48, 10)], (5, 5, 2)),
-        (&[(FREE + 40, 6)], (6, 5, 1)),
-        (&[(FREE + 48, 6)], (6, 5, 2)),
-        (&[(FREE + 32, 7), (FREE + 48, MAX)], (5, 5, 2)),
-        (&[(FREE + 32, 2)], (8, 5, 0)),
-        (&[(FREE + 32, 5)], (8, 5, 0)),
-        (&[(FREE + 32, 3), (FREE + 40, 4)], (8, 5, 0)),
-        (&[(FREE + 32, 3), (FREE + 48, 7)], (6, 5, 2)),
+        (&[(FREE, 6)], (3, 5, 0, 0)),
+        (&[(FREE + 8, 2)], (3, 5, 0, 0)),
+        (&[(FREE + 24, 5)], (3, 5, 0, 0)),
+        (&[(FREE + 16, 125)], (4, 5, 0, 0)),
+        (&[(FREE + 16, 1 << 61)], (4, 5, 0, 0)),
+        (&[(FREE + 16, 124)], (5, 5, 3, 0)),
+        (&[(FREE + 32, 1)], (5, 5, 0, 0)),
+        (&[(FREE + 48, 10)], (5, 5, 2, 0)),
+        (&[(FREE + 40, 6)], (6, 5, 1, 0)),
+        (&[(FREE + 48, 6)], (6, 5, 2, 0)),
+        (&[(FREE + 32, 7), (FREE + 48, MAX)], (5, 5, 2, 0)),
+        (&[(FREE + 32, 2)], (8, 5, 0, 0)),
+        (&[(FREE + 32, 5)], (8, 5, 0, 0)),
+        (&[(FREE + 32, 3), (FREE + 40, 4)], (8, 5, 0, 0)),
+        (&[(FREE + 32, 3), (FREE + 48, 7)], (6, 5, 2, 0)),
     ];
     for (change, fault) in cases {
         judged(run, &changed(change), (P, N), 2, 5, fault);
     }
-    let got = ask::<4>(|answer| run.subject.judge(&changed(&[(FREE + 16, 0)]), P, N, 2, 5, answer));
-    run.tally.same((got.number, got.fields), (0, [4, 4, 0, 0]), || "an empty freelist".into());
+    let got = ask::<5>(|answer| run.subject.judge(&changed(&[(FREE + 16, 0)]), P, N, 2, 5, answer));
+    run.tally.same((got.number, got.fields), (0, [4, 4, 0, 0, 0]), || "an empty freelist".into());
 }
 
 /// A path of branches from page 2 on: 15 of them over a leaf pass, the seventeenth level does not.
@@ -214,14 +214,14 @@ fn levels(run: &mut Run) {
         put_block(&mut image, 2 + branches, &write_content(&Content { leaf: true, items }, P, 2 + branches, 0));
         put_block(&mut image, n - 1, &freelist_block(P, n - 1, 1, &[]));
         if branches > 15 {
-            judged(run, &image, (P, n), 2, n - 1, (9, 18, 0));
-            looked(run, &image, (P, n), 2, "\u{5}", (9, 18, 0));
+            judged(run, &image, (P, n), 2, n - 1, (9, 18, 0, 0));
+            looked(run, &image, (P, n), 2, "\u{5}", (9, 18, 0, 0));
             continue;
         }
-        let got = ask::<4>(|answer| run.subject.judge(&image, P, n, 2, n - 1, answer));
-        run.tally.same((got.number, got.fields), (0, [1, 17, 0, 0]), || "sixteen levels".into());
-        let got = ask::<6>(|answer| run.subject.lookup(&image, P, n, 2, &[5], answer));
-        run.tally.same((got.number, got.fields), (0, [1, 0, 17 * P + 65, 1, 0, 0]), || "lookup at level 16".into());
+        let got = ask::<5>(|answer| run.subject.judge(&image, P, n, 2, n - 1, answer));
+        run.tally.same((got.number, got.fields), (0, [1, 17, 0, 0, 0]), || "sixteen levels".into());
+        let got = ask::<7>(|answer| run.subject.lookup(&image, P, n, 2, &[5], answer));
+        run.tally.same((got.number, got.fields), (0, [1, 0, 17 * P + 65, 1, 0, 0, 0]), || "lookup at level 16".into());
     }
 }
 
@@ -234,10 +234,10 @@ fn put_block(image: &mut [u8], page: u64, block: &[u8]) {
 fn absent(run: &mut Run) {
     let mut image = sound();
     for key in ["", "a", "bb", "d", "n", "zz"] {
-        looked(run, &image, (P, N), 2, key, (0, 0, 0));
+        looked(run, &image, (P, N), 2, key, (0, 0, 0, 0));
     }
     put_header(&mut image[6 * 1_024..], 6, 2, 0, 0);
-    looked(run, &image, (P, N), 6, "a", (0, 0, 0));
-    let got = ask::<4>(|answer| run.subject.judge(&image, P, N, 6, 9, answer));
+    looked(run, &image, (P, N), 6, "a", (0, 0, 0, 0));
+    let got = ask::<5>(|answer| run.subject.judge(&image, P, N, 6, 9, answer));
     run.tally.same(got.number, 3, || "freelist on a page of zeros".into());
 }

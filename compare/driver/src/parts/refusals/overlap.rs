@@ -69,13 +69,13 @@ fn changed(changes: &[(u64, usize, u64)]) -> Image {
 /// Holds the judge to a number, page and element.
 fn refused(run: &mut Run, image: &Image, (number, page, element): Fault, what: &str) {
     let got = image.judged(run.subject);
-    run.tally.same((got.number, got.fields), (number, [0, 0, page, element]), || what.into());
+    run.tally.same((got.number, got.fields), (number, [0, 0, page, element, 0]), || what.into());
 }
 
 /// Holds the judge to its counts.
 fn passed(run: &mut Run, image: &Image, counts: [u64; 2], what: &str) {
     let got = image.judged(run.subject);
-    run.tally.same((got.number, got.fields), (0, [counts[0], counts[1], 0, 0]), || what.into());
+    run.tally.same((got.number, got.fields), (0, [counts[0], counts[1], 0, 0, 0]), || what.into());
 }
 
 pub fn run(run: &mut Run) {

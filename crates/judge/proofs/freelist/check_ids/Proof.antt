@@ -6,7 +6,7 @@ use native.Mathlib.Omega.{arith}
 use denote.Ref.{now}
 use lib.ListN.{length}
 use Rattle.page.specs.Layout.{countOf}
-use Rattle.page.specs.PageRules.{firstBad}
+use Rattle.page.specs.PageRules.{noCommon, firstBad}
 use Rattle.judge.specs.Judge.{idOutside, idNotAbove, idMarked}
 use Rattle.judge.proofs.PageLaws.{ids-short, ids-long, ids-inside}
 use Rattle.judge.proofs.freelist.check_ids.Statement.{statement}
@@ -24,16 +24,16 @@ fits : (c : tie.Else1) → 32 + 8 * countOf (now (c .before .before .before .arg
 fits c = let e = c .before .count .ensures in let t = c .if1 .left in let p = c .before .before .before .pre .0 in omega arith
 
 outside-told : (c : tie.After-first-outside)
-    → let a = c .before .before .before .before .args in c .first-outside .result ≡ firstBad (idOutside (a .n) (now (a .b))) 5 (countOf (now (a .b))) 0
+    → let a = c .before .before .before .before .args in c .first-outside .result ≡ firstBad (idOutside (a .n) (now (a .b))) noCommon 5 (countOf (now (a .b))) 0
 outside-told c =
     let a = c .before .before .before .before .args in
-    c .first-outside .ensures ∙ ap (λ (k : ℕ). firstBad (idOutside (a .n) (now (a .b))) 5 k 0) (c .before .before .count .ensures)
+    c .first-outside .ensures ∙ ap (λ (k : ℕ). firstBad (idOutside (a .n) (now (a .b))) noCommon 5 k 0) (c .before .before .count .ensures)
 
 above-told : (c : tie.After-first-not-above)
-    → let a = c .before .before .before .before .before .before .before .args in c .first-not-above .result ≡ firstBad (idNotAbove (now (a .b))) 6 (countOf (now (a .b)) - 1) 1
+    → let a = c .before .before .before .before .before .before .before .args in c .first-not-above .result ≡ firstBad (idNotAbove (now (a .b))) noCommon 6 (countOf (now (a .b)) - 1) 1
 above-told c =
     let a = c .before .before .before .before .before .before .before .args in
-    c .first-not-above .ensures ∙ ap (λ (k : ℕ). firstBad (idNotAbove (now (a .b))) 6 (k - 1) 1) (c .before .before .before .before .before .count .ensures)
+    c .first-not-above .ensures ∙ ap (λ (k : ℕ). firstBad (idNotAbove (now (a .b))) noCommon 6 (k - 1) 1) (c .before .before .before .before .before .count .ensures)
 
 first-marked-requires : tie.Need-first-marked-requires
 first-marked-requires c κs =
@@ -63,7 +63,7 @@ returns-4 c vs m =
     let o = c .before .before .before .before .before .before in
     let s = o .before .before .before .before in
     c .first-marked .ensures vs m
-    ∙ ap (λ (k : ℕ). firstBad (idMarked vs (now (s .args .b))) 8 k 0) (o .before .before .count .ensures)
+    ∙ ap (λ (k : ℕ). firstBad (idMarked vs (now (s .args .b))) noCommon 8 k 0) (o .before .before .count .ensures)
     ∙ sym
     (ids-long (s .args .n) (now (s .args .b)) vs (fits (o .before))
     ∙ rw (sym (outside-told o) ∙ c .before .before .before .before .enum-told .given .1, sym (above-told (c .before .before .before)) ∙ c .before .enum-told2 .given .1))

@@ -9,7 +9,7 @@ use native.Mathlib.Omega.{arith}
 use denote.Ref.{now}
 use Rattle.field.specs.Marks.{isMarked}
 use Rattle.field.proofs.MarkLaws.{word-told}
-use Rattle.page.specs.PageRules.{firstBad}
+use Rattle.page.specs.PageRules.{noCommon, firstBad}
 use Rattle.page.proofs.RuleLaws.{bad-skip, bad-here, bad-none}
 use Rattle.judge.specs.Judge.{idAt, idMarked}
 use Rattle.judge.specs.Walk.{Marks}
@@ -18,7 +18,7 @@ use Rattle.judge.proofs.freelist.first_marked.Tie as tie
 
 abbrev Inv-loop : tie.InvT-loop
 Inv-loop b c marks i₀ i =
-    (i ≤ c) × ((vs : List ℕ) → Marks marks vs → firstBad (idMarked vs b) 8 c 0 ≡ firstBad (idMarked vs b) 8 (c - i) i)
+    (i ≤ c) × ((vs : List ℕ) → Marks marks vs → firstBad (idMarked vs b) noCommon 8 c 0 ≡ firstBad (idMarked vs b) noCommon 8 (c - i) i)
 
 abbrev μ-loop : tie.MeasureT-loop
 μ-loop b c marks i₀ i = c - i
@@ -49,19 +49,19 @@ returns : tie.Need-returns Inv-loop μ-loop
 returns c vs m =
     let l = c .before .before .before .before in
     let a = l .before .before .args in
-    sym (l .loop .inv .1 vs m ∙ bad-here (idMarked vs (now (a .b))) 8 (a .c) (l .loop .i) (omega arith) (sym (tested (c .before) vs m) ∙ c .if1 .taken))
+    sym (l .loop .inv .1 vs m ∙ bad-here (idMarked vs (now (a .b))) noCommon 8 (a .c) (l .loop .i) (omega arith) (sym (tested (c .before) vs m) ∙ c .if1 .taken))
 
 loop-again : tie.Need-loop-again Inv-loop μ-loop
 loop-again c =
     let l = c .before .before .before .before in
     let a = l .before .before .args in
-    (omega arith, λ vs m. l .loop .inv .1 vs m ∙ bad-skip (idMarked vs (now (a .b))) 8 (a .c) (l .loop .i) (omega arith) (sym (tested (c .before) vs m) ∙ c .if1 .left))
+    (omega arith, λ vs m. l .loop .inv .1 vs m ∙ bad-skip (idMarked vs (now (a .b))) noCommon 8 (a .c) (l .loop .i) (omega arith) (sym (tested (c .before) vs m) ∙ c .if1 .left))
 
 returns-2 : tie.Need-returns-2 Inv-loop μ-loop
 returns-2 c vs m =
     let l = c .before in
     let a = l .before .before .args in
-    sym (l .loop .inv .1 vs m ∙ bad-none (idMarked vs (now (a .b))) 8 (a .c) (l .loop .i) (omega arith))
+    sym (l .loop .inv .1 vs m ∙ bad-none (idMarked vs (now (a .b))) noCommon 8 (a .c) (l .loop .i) (omega arith))
 
 pub first-marked-spec : {M : Type 1} → statement M
 first-marked-spec =

@@ -5,7 +5,7 @@ use borrow.Author.Needs.{needs}
 use denote.Ref.{now}
 use Rattle.page.specs.PageRules.{firstBad}
 use Rattle.page.proofs.RuleLaws.{check-sound, sound-weaker}
-use Rattle.judge.specs.Walk.{upperOf, keyOut}
+use Rattle.judge.specs.Walk.{upperOf, keyOut, commonOut}
 use Rattle.judge.proofs.range.judge_block.Statement.{statement}
 use Rattle.judge.proofs.range.judge_block.Tie as tie
 
@@ -23,8 +23,10 @@ returns c = rw (sym (c .before .before .before .check .ensures) ∙ c .before .n
 returns-2 : tie.Need-returns-2
 returns-2 c =
     let a = c .before .before .before .before .before .before .before .before .args in
+    let high = upperOf (a .bounded) (now (a .high)) in
     rw (sym (c .before .before .before .before .check .ensures) ∙ c .before .before .enum-told .given .1)
-    (c .check-range .ensures ∙ ap (λ (n : ℕ). firstBad (keyOut (a .leaf) (now (a .b)) (now (a .low)) (upperOf (a .bounded) (now (a .high)))) 7 n 0) (c .before .count .ensures))
+    (c .check-range .ensures
+    ∙ ap (λ (n : ℕ). firstBad (keyOut (a .leaf) (now (a .b)) (now (a .low)) high) (commonOut (a .leaf) (now (a .b)) (now (a .low)) high) 7 n 0) (c .before .count .ensures))
 
 pub judge-block-spec : {M : Type 1} → statement M
 judge-block-spec =

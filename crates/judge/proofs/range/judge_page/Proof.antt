@@ -32,50 +32,50 @@ leaf-told : (c : tie.After-judge-block)
     let s = b .before .before .before .before in
     let a = s .args in
     Rattle.judge.specs.Walk.judgePageOf (Rattle.view.specs.View.viewOf (now (a .image)) (a .p) (a .n) (a .q) (a .top)) (a .q) (now (a .low)) (upperOf (a .bounded) (now (a .high)))
-    ≡ afterCheck (c .judge-block .result) (λ r j. Breach r (a .q) j) (Leaf (countOf (now (b .block .result))))
+    ≡ afterCheck (c .judge-block .result) (λ r. Breach r (a .q)) (Leaf (countOf (now (b .block .result))))
 leaf-told c =
     let b = c .before .before .before in
     let s = b .before .before .before .before in
     let a = s .args in
     leaf-page (now (a .image)) (a .p) (a .n) (a .q) (a .top) (now (a .low)) (upperOf (a .bounded) (now (a .high))) (now (b .block .result)) (b .block .ensures .0) (s .pre .2)
     (sym (c .before .before .is-leaf .ensures) ∙ c .before .if1 .taken)
-    ∙ ap (λ (v : Verdict). afterCheck v (λ r j. Breach r (a .q) j) (Leaf (countOf (now (b .block .result))))) (sym (c .judge-block .ensures))
+    ∙ ap (λ (v : Verdict). afterCheck v (λ r. Breach r (a .q)) (Leaf (countOf (now (b .block .result))))) (sym (c .judge-block .ensures))
 
 branch-told : (c : tie.After-judge-block2)
     → let b = c .before .before .before in
     let s = b .before .before .before .before in
     let a = s .args in
     Rattle.judge.specs.Walk.judgePageOf (Rattle.view.specs.View.viewOf (now (a .image)) (a .p) (a .n) (a .q) (a .top)) (a .q) (now (a .low)) (upperOf (a .bounded) (now (a .high)))
-    ≡ afterCheck (c .judge-block2 .result) (λ r j. Breach r (a .q) j) (Branch (countOf (now (b .block .result))))
+    ≡ afterCheck (c .judge-block2 .result) (λ r. Breach r (a .q)) (Branch (countOf (now (b .block .result))))
 branch-told c =
     let b = c .before .before .before in
     let s = b .before .before .before .before in
     let a = s .args in
     branch-page (now (a .image)) (a .p) (a .n) (a .q) (a .top) (now (a .low)) (upperOf (a .bounded) (now (a .high))) (now (b .block .result)) (b .block .ensures .0) (s .pre .2)
     (sym (c .before .before .is-leaf .ensures) ∙ c .before .if1 .left)
-    ∙ ap (λ (v : Verdict). afterCheck v (λ r j. Breach r (a .q) j) (Branch (countOf (now (b .block .result))))) (sym (c .judge-block2 .ensures))
+    ∙ ap (λ (v : Verdict). afterCheck v (λ r. Breach r (a .q)) (Branch (countOf (now (b .block .result))))) (sym (c .judge-block2 .ensures))
 
 returns : tie.Need-returns
 returns c =
     let k = c .before .before .before in
-    sym (leaf-told k ∙ ap (λ (v : Verdict). afterCheck v (λ r j. Breach r (k .before .before .before .before .before .before .before .args .q) j) (Leaf (countOf (now (k .before .before .before .block .result))))) (c .before .number .given .1))
+    sym (leaf-told k ∙ ap (λ (v : Verdict). afterCheck v (λ r. Breach r (k .before .before .before .before .before .before .before .args .q)) (Leaf (countOf (now (k .before .before .before .block .result))))) (c .before .number .given .1))
 
 returns-2 : tie.Need-returns-2
 returns-2 c =
     let k = c .before .before .before in
     ap Leaf (c .count .ensures)
-    ∙ sym (leaf-told k ∙ ap (λ (v : Verdict). afterCheck v (λ r j. Breach r (k .before .before .before .before .before .before .before .args .q) j) (Leaf (countOf (now (k .before .before .before .block .result))))) (c .before .enum-told .given .1))
+    ∙ sym (leaf-told k ∙ ap (λ (v : Verdict). afterCheck v (λ r. Breach r (k .before .before .before .before .before .before .before .args .q)) (Leaf (countOf (now (k .before .before .before .block .result))))) (c .before .enum-told .given .1))
 
 returns-3 : tie.Need-returns-3
 returns-3 c =
     let k = c .before .before .before in
-    sym (branch-told k ∙ ap (λ (v : Verdict). afterCheck v (λ r j. Breach r (k .before .before .before .before .before .before .before .args .q) j) (Branch (countOf (now (k .before .before .before .block .result))))) (c .before .number2 .given .1))
+    sym (branch-told k ∙ ap (λ (v : Verdict). afterCheck v (λ r. Breach r (k .before .before .before .before .before .before .before .args .q)) (Branch (countOf (now (k .before .before .before .block .result))))) (c .before .number2 .given .1))
 
 returns-4 : tie.Need-returns-4
 returns-4 c =
     let k = c .before .before .before in
     ap Branch (c .count2 .ensures)
-    ∙ sym (branch-told k ∙ ap (λ (v : Verdict). afterCheck v (λ r j. Breach r (k .before .before .before .before .before .before .before .args .q) j) (Branch (countOf (now (k .before .before .before .block .result))))) (c .before .enum-told2 .given .1))
+    ∙ sym (branch-told k ∙ ap (λ (v : Verdict). afterCheck v (λ r. Breach r (k .before .before .before .before .before .before .before .args .q)) (Branch (countOf (now (k .before .before .before .block .result))))) (c .before .enum-told2 .given .1))
 
 pub judge-page-spec : {M : Type 1} → statement M
 judge-page-spec =

@@ -87,7 +87,7 @@ returns-2 c =
     let a = b .before .before .before .before .before .before .args in
     sym
     (ap (λ (v : View Value). stepOf v (now (a .key)))
-    (leaf-bad (now (a .image)) (a .p) (a .n) (a .q) (a .top) (now (b .block .result)) (b .block .ensures .0) (good (b .before)) _ _
+    (leaf-bad (now (a .image)) (a .p) (a .n) (a .q) (a .top) (now (b .block .result)) (b .block .ensures .0) (good (b .before)) _ _ _
     (sym (k .before .before .is-leaf .ensures) ∙ k .before .if2 .taken) (sym (k .check .ensures) ∙ c .before .number .given .1)))
 
 returns-3 : tie.Need-returns-3
@@ -109,7 +109,7 @@ returns-4 c =
     let a = b .before .before .before .before .before .before .args in
     sym
     (ap (λ (v : View Value). stepOf v (now (a .key)))
-    (branch-bad (now (a .image)) (a .p) (a .n) (a .q) (a .top) (now (b .block .result)) (b .block .ensures .0) (good (b .before)) _ _
+    (branch-bad (now (a .image)) (a .p) (a .n) (a .q) (a .top) (now (b .block .result)) (b .block .ensures .0) (good (b .before)) _ _ _
     (sym (k .before .before .is-leaf .ensures) ∙ k .before .if2 .left) (sym (k .check2 .ensures) ∙ c .before .number2 .given .1)))
 
 returns-5 : tie.Need-returns-5

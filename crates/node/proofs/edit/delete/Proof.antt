@@ -55,7 +55,7 @@ remove-requires c κs =
 returns-3 : tie.Need-returns-3
 returns-3 c =
     let a = c .before .before .before .before .before .before .args in
-    let e = delete-breach (a .p) (now (a .b)) (a .i) (a .out .now) _ _ (sym (c .before .before .before .lent-check .ensures) ∙ c .before .number .given .1) in
+    let e = delete-breach (a .p) (now (a .b)) (a .i) (a .out .now) _ _ _ (sym (c .before .before .before .lent-check .ensures) ∙ c .before .number .given .1) in
     (rw e, rw e)
 
 returns-4 : tie.Need-returns-4
@@ -65,7 +65,7 @@ returns-4 c =
     let n = r .before .before .before .before .count .ensures in
     let a = q .before .before .before .before .before .before .before .args in
     let e = delete-goes (a .p) (now (a .b)) (a .i) (a .out .now) (passed (q .before .before)) (leafy q) (omega arith) in
-    deleted-refused (a .p) (now (a .b)) (a .i) e (r .remove .ensures) _ _ (c .before .number2 .given .1)
+    deleted-refused (a .p) (now (a .b)) (a .i) e (r .remove .ensures) _ _ _ (c .before .number2 .given .1)
 
 returns-5 : tie.Need-returns-5
 returns-5 c =

@@ -25,14 +25,14 @@ is-leaf-requires c κs = let a = c .before .before .before .before .before .befo
 returns : tie.Need-returns
 returns c =
     let a = c .before .before .before .before .before .before .before .before .before .args in
-    refused-edits true (idOf (now (a .b))) (a .p) (a .out .now) 11 0
+    refused-edits true (idOf (now (a .b))) (a .p) (a .out .now) 11 0 0
     (insert-branch (a .p) (now (a .b)) (now (a .key)) (a .kind) (now (a .value)) (a .out .now) (passed (c .before .before)) (sym (c .before .is-leaf .ensures) ∙ not-true _ (c .if1 .taken)))
 
 returns-2 : tie.Need-returns-2
 returns-2 c =
     let q = c .before .before in
     let a = q .before .before .before .before .before .before .before .before .before .args in
-    refused-edits true (idOf (now (a .b))) (a .p) (a .out .now) 11 0
+    refused-edits true (idOf (now (a .b))) (a .p) (a .out .now) 11 0 0
     (insert-kind (a .p) (now (a .b)) (now (a .key)) (a .kind) (now (a .value)) (a .out .now) (passed (q .before .before)) (leafy q)
     (sym (c .before .kind-bad .ensures) ∙ c .if2 .taken))
 
@@ -42,8 +42,8 @@ put-requires c κs = let q = c .before .before .before in (passed (q .before .be
 returns-3 : tie.Need-returns-3
 returns-3 c =
     let a = c .before .before .before .before .before .before .before .before .args in
-    refused-edits true (idOf (now (a .b))) (a .p) (a .out .now) _ _
-    (insert-breach (a .p) (now (a .b)) (now (a .key)) (a .kind) (now (a .value)) (a .out .now) _ _ (sym (c .before .before .before .lent-check .ensures) ∙ c .before .number .given .1))
+    refused-edits true (idOf (now (a .b))) (a .p) (a .out .now) _ _ _
+    (insert-breach (a .p) (now (a .b)) (now (a .key)) (a .kind) (now (a .value)) (a .out .now) _ _ _ (sym (c .before .before .before .lent-check .ensures) ∙ c .before .number .given .1))
 
 returns-4 : tie.Need-returns-4
 returns-4 c =

@@ -17,13 +17,13 @@ allowed c = sym (c .before .size-allowed .ensures) ∙ not-false _ (c .if1 .left
 returns : tie.Need-returns
 returns c =
     let a = c .before .before .before .before .args in
-    refused-edits false (a .id) (a .p) (a .out .now) 1 0
+    refused-edits false (a .id) (a .p) (a .out .now) 1 0 0
     (branch-size (a .p) (a .out .now) (now (a .key)) (a .child) (sym (c .before .size-allowed .ensures) ∙ not-true _ (c .if1 .taken)))
 
 returns-2 : tie.Need-returns-2
 returns-2 c =
     let a = c .before .before .before .before .before .args in
-    refused-edits false (a .id) (a .p) (a .out .now) 11 0 (branch-child (a .p) (a .out .now) (now (a .key)) (a .child) (allowed (c .before)) (omega arith))
+    refused-edits false (a .id) (a .p) (a .out .now) 11 0 0 (branch-child (a .p) (a .out .now) (now (a .key)) (a .child) (allowed (c .before)) (omega arith))
 
 write-new-requires : tie.Need-write-new-requires
 write-new-requires c κs =

@@ -16,7 +16,7 @@ allowed c = sym (c .before .size-allowed .ensures) ∙ not-false _ (c .if1 .left
 returns : tie.Need-returns
 returns c =
     let a = c .before .before .before .args in
-    refused-edits true (a .id) (a .p) (a .out .now) 1 0 (leaf-size (a .p) (a .out .now) (sym (c .before .size-allowed .ensures) ∙ not-true _ (c .if1 .taken)))
+    refused-edits true (a .id) (a .p) (a .out .now) 1 0 0 (leaf-size (a .p) (a .out .now) (sym (c .before .size-allowed .ensures) ∙ not-true _ (c .if1 .taken)))
 
 write-new-requires : tie.Need-write-new-requires
 write-new-requires c κs =

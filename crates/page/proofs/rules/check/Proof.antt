@@ -5,7 +5,7 @@ use Prim.Native.Nat.{ℕ, _-_}
 use denote.Ref.{now}
 use native.Mathlib.Omega.{arith}
 use Rattle.page.specs.Layout.{countOf}
-use Rattle.page.specs.PageRules.{firstBad, elementBad, keyBad}
+use Rattle.page.specs.PageRules.{noCommon, firstBad, elementBad, keyBad, commonBefore}
 use Rattle.page.proofs.RuleLaws.{table-good, check-table, check-stops, check-goes-on, within-all}
 use Rattle.page.proofs.rules.check.Statement.{statement}
 use Rattle.page.proofs.rules.check.Tie as tie
@@ -22,10 +22,10 @@ check-elements-requires c κs =
 
 -- rule 6 was tried over all elements
 tried : (c : tie.After-check-elements)
-    → let a = c .before .before .before .before .before .args in c .check-elements .result ≡ firstBad (elementBad (a .leaf) (now (a .b))) 5 (countOf (now (a .b))) 0
+    → let a = c .before .before .before .before .before .args in c .check-elements .result ≡ firstBad (elementBad (a .leaf) (now (a .b))) noCommon 5 (countOf (now (a .b))) 0
 tried c =
     let a = c .before .before .before .before .before .args in
-    c .check-elements .ensures ∙ ap (λ (n : ℕ). firstBad (elementBad (a .leaf) (now (a .b))) 5 n 0) (c .before .count .ensures)
+    c .check-elements .ensures ∙ ap (λ (n : ℕ). firstBad (elementBad (a .leaf) (now (a .b))) noCommon 5 n 0) (c .before .count .ensures)
 
 check-keys-requires : tie.Need-check-keys-requires
 check-keys-requires c κs =
@@ -42,7 +42,7 @@ returns-2 c =
     let k = c .before .before .before in
     let s = k .before .before .before .before .before in
     sym
-    (check-stops (s .args .leaf) (s .args .empty) (now (s .args .b)) (sym (k .before .before .before .table-bad .ensures) ∙ k .before .before .if1 .left) _ _
+    (check-stops (s .args .leaf) (s .args .empty) (now (s .args .b)) (sym (k .before .before .before .table-bad .ensures) ∙ k .before .before .if1 .left) _ _ _
     (sym (tried k) ∙ c .before .number .given .1))
 
 returns-3 : tie.Need-returns-3
@@ -50,7 +50,7 @@ returns-3 c =
     let k = c .before .before .before in
     let s = k .before .before .before .before .before in
     c .check-keys .ensures
-    ∙ ap (λ (n : ℕ). firstBad (keyBad (s .args .leaf) (now (s .args .b))) 6 (n - 1) 1) (k .before .count .ensures)
+    ∙ ap (λ (n : ℕ). firstBad (keyBad (s .args .leaf) (now (s .args .b))) (commonBefore (s .args .leaf) (now (s .args .b))) 6 (n - 1) 1) (k .before .count .ensures)
     ∙ sym
     (check-goes-on (s .args .leaf) (s .args .empty) (now (s .args .b)) (sym (k .before .before .before .table-bad .ensures) ∙ k .before .before .if1 .left)
     (sym (tried k) ∙ c .before .enum-told .given .1))

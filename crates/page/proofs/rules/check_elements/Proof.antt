@@ -6,13 +6,13 @@ use borrow.Author.Needs.{needs}
 use native.Mathlib.Nat.{sub-zero}
 use native.Mathlib.Omega.{arith}
 use denote.Ref.{now}
-use Rattle.page.specs.PageRules.{firstBad, elementBad}
+use Rattle.page.specs.PageRules.{noCommon, firstBad, elementBad}
 use Rattle.page.proofs.RuleLaws.{bad-skip, bad-here, bad-none}
 use Rattle.page.proofs.rules.check_elements.Statement.{statement}
 use Rattle.page.proofs.rules.check_elements.Tie as tie
 
 abbrev Inv-loop : tie.InvT-loop
-Inv-loop b leaf n end i₀ i = (i ≤ n) × (firstBad (elementBad leaf b) 5 n 0 ≡ firstBad (elementBad leaf b) 5 (n - i) i)
+Inv-loop b leaf n end i₀ i = (i ≤ n) × (firstBad (elementBad leaf b) noCommon 5 n 0 ≡ firstBad (elementBad leaf b) noCommon 5 (n - i) i)
 
 abbrev μ-loop : tie.MeasureT-loop
 μ-loop b leaf n end i₀ i = n - i
@@ -33,19 +33,19 @@ returns : tie.Need-returns Inv-loop μ-loop
 returns c =
     let a = c .before .before .before .before .before .before .args in
     let l = c .before .before .before .loop in
-    sym (l .inv .1 ∙ bad-here (elementBad (a .leaf) (now (a .b))) 5 (a .n) (l .i) (omega arith) (sym (c .before .element-bad .ensures) ∙ c .if1 .taken))
+    sym (l .inv .1 ∙ bad-here (elementBad (a .leaf) (now (a .b))) noCommon 5 (a .n) (l .i) (omega arith) (sym (c .before .element-bad .ensures) ∙ c .if1 .taken))
 
 loop-again : tie.Need-loop-again Inv-loop μ-loop
 loop-again c =
     let a = c .before .before .before .before .before .before .args in
     let l = c .before .before .before .loop in
-    (omega arith, l .inv .1 ∙ bad-skip (elementBad (a .leaf) (now (a .b))) 5 (a .n) (l .i) (omega arith) (sym (c .before .element-bad .ensures) ∙ c .if1 .left))
+    (omega arith, l .inv .1 ∙ bad-skip (elementBad (a .leaf) (now (a .b))) noCommon 5 (a .n) (l .i) (omega arith) (sym (c .before .element-bad .ensures) ∙ c .if1 .left))
 
 returns-2 : tie.Need-returns-2 Inv-loop μ-loop
 returns-2 c =
     let a = c .before .before .before .before .args in
     let l = c .before .loop in
-    sym (l .inv .1 ∙ bad-none (elementBad (a .leaf) (now (a .b))) 5 (a .n) (l .i) (omega arith))
+    sym (l .inv .1 ∙ bad-none (elementBad (a .leaf) (now (a .b))) noCommon 5 (a .n) (l .i) (omega arith))
 
 pub check-elements-spec : {M : Type 1} → statement M
 check-elements-spec =

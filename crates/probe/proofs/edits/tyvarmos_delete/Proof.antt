@@ -16,7 +16,7 @@ returns c =
     let a = c .before .before .before .before .args in
     let o = deleteOf (a .p) (now (a .block)) (a .index) (a .out .now) in
     let r = deletedAnswer (a .p) (now (a .block)) (a .index) o in
-    told-short (deletedFields r) (a .answer .now) (a .out .now) (output true (idOf (now (a .block))) (a .p) (a .out .now) o) 8 (deleted-count r) (omega arith)
+    told-short (deletedFields r) (a .answer .now) (a .out .now) (output true (idOf (now (a .block))) (a .p) (a .out .now) o) 9 (deleted-count r) (omega arith)
 
 tell-deleted-requires : tie.Need-tell-deleted-requires
 tell-deleted-requires c κs =
@@ -32,7 +32,7 @@ returns-2 c =
     let o = deleteOf (a .p) (now (a .block)) (a .index) (a .out .now) in
     let r = deletedAnswer (a .p) (now (a .block)) (a .index) o in
     let room = q .before .before .if1 .left in
-    told-roomy deletedFields _ r (a .answer .now) (a .out .now) (output true (idOf (now (a .block))) (a .p) (a .out .now) o) 8 (omega arith)
+    told-roomy deletedFields _ r (a .answer .now) (a .out .now) (output true (idOf (now (a .block))) (a .p) (a .out .now) o) 9 (omega arith)
     (q .delete .ensures .0) (q .delete .ensures .1) (t .tell-deleted .ensures)
 
 pub tyvarmos-delete-spec : {M : Type 1} → statement M

@@ -14,7 +14,7 @@ returns : tie.Need-returns
 returns c =
     let a = c .before .before .before .before .args in
     let r = splitOf (a .p) (now (a .block)) (length (a .cuts .now)) in
-    told-short (partedFields r) (a .answer .now) (a .cuts .now) (listLeft r (blockCuts (a .p) (now (a .block))) (a .cuts .now)) 3 (parted-count r) (omega arith)
+    told-short (partedFields r) (a .answer .now) (a .cuts .now) (listLeft r (blockCuts (a .p) (now (a .block))) (a .cuts .now)) 4 (parted-count r) (omega arith)
 
 returns-2 : tie.Need-returns-2
 returns-2 c =
@@ -23,7 +23,7 @@ returns-2 c =
     let a = q .before .before .before .before .before .before .args in
     let r = splitOf (a .p) (now (a .block)) (length (a .cuts .now)) in
     let room = q .before .before .if1 .left in
-    told-roomy partedFields _ r (a .answer .now) (a .cuts .now) (listLeft r (blockCuts (a .p) (now (a .block))) (a .cuts .now)) 3 (omega arith)
+    told-roomy partedFields _ r (a .answer .now) (a .cuts .now) (listLeft r (blockCuts (a .p) (now (a .block))) (a .cuts .now)) 4 (omega arith)
     (q .split .ensures .0) (rw (q .split .ensures .0) at (q .split .ensures .1)) (t .tell-parted .ensures)
 
 pub tyvarmos-split-spec : {M : Type 1} → statement M

@@ -16,7 +16,7 @@ returns c =
     let a = c .before .before .before .before .before .args in
     let r = splitWriteOf (a .p) (a .n) (now (a .block)) (now (a .pages)) (length (a .out .now)) in
     let made = packAll (isLeaf (now (a .block))) (a .p) (now (a .pages)) (blockPieces (a .p) (now (a .block))) in
-    told-short (writtenFields r) (a .answer .now) (a .out .now) (outLeft r made (a .out .now)) 4 (written-count r) (omega arith)
+    told-short (writtenFields r) (a .answer .now) (a .out .now) (outLeft r made (a .out .now)) 5 (written-count r) (omega arith)
 
 returns-2 : tie.Need-returns-2
 returns-2 c =
@@ -26,7 +26,7 @@ returns-2 c =
     let r = splitWriteOf (a .p) (a .n) (now (a .block)) (now (a .pages)) (length (a .out .now)) in
     let made = packAll (isLeaf (now (a .block))) (a .p) (now (a .pages)) (blockPieces (a .p) (now (a .block))) in
     let room = q .before .before .if1 .left in
-    told-roomy writtenFields _ r (a .answer .now) (a .out .now) (outLeft r made (a .out .now)) 4 (omega arith)
+    told-roomy writtenFields _ r (a .answer .now) (a .out .now) (outLeft r made (a .out .now)) 5 (omega arith)
     (q .split-write .ensures .0) (rw (q .split-write .ensures .0) at (q .split-write .ensures .1)) (t .tell-written .ensures)
 
 pub tyvarmos-split-write-spec : {M : Type 1} → statement M

@@ -5,6 +5,7 @@ use std::os::unix::ffi::{OsStrExt, OsStringExt};
 use std::path::PathBuf;
 
 use crate::hex;
+use crate::keys;
 
 /// What is to be done.
 #[derive(Clone, Copy, Debug, PartialEq, Eq)]
@@ -142,13 +143,13 @@ fn unknown(name: &[u8], has_value: bool) -> String {
     if has_value && flag(&mut Words::default(), name) {
         return format!("{} takes no word", String::from_utf8_lossy(name));
     }
-    format!("there is no option {}", hex::shown(name))
+    format!("there is no option {}", keys::shown(name))
 }
 
 /// Sets a number that may be given once.
 fn once(place: &mut Option<u64>, name: &str, word: &[u8]) -> Result<(), String> {
     let number = std::str::from_utf8(word).ok().and_then(|word| word.parse().ok());
-    let number = number.ok_or(format!("{name} wants a number, not {}", hex::shown(word)))?;
+    let number = number.ok_or(format!("{name} wants a number, not {}", keys::shown(word)))?;
     match place.replace(number) {
         None => Ok(()),
         Some(_) => Err(format!("{name} is given twice")),
@@ -157,7 +158,7 @@ fn once(place: &mut Option<u64>, name: &str, word: &[u8]) -> Result<(), String> 
 
 /// The bytes that hex digits stand for.
 fn digits(word: &[u8]) -> Result<Vec<u8>, String> {
-    hex::parse(word).ok_or(format!("{} is not an even count of hex digits", hex::shown(word)))
+    hex::parse(word).ok_or(format!("{} is not an even count of hex digits", keys::shown(word)))
 }
 
 /// The work that sorted words ask for.
@@ -168,7 +169,7 @@ fn options(words: Words) -> Result<Options, String> {
         Some(word) if word == "judge" => Action::Judge,
         Some(word) if word == "get" => Action::Get,
         Some(word) if word == "stat" => Action::Stat,
-        Some(word) => return Err(format!("{} is none of judge, get, stat", hex::shown(word.as_bytes()))),
+        Some(word) => return Err(format!("{} is none of judge, get, stat", keys::shown(word.as_bytes()))),
     };
     let mut files = vec![others.next().map(PathBuf::from).ok_or("a FILE is wanted")?];
     let key = match (action, words.hex) {
@@ -180,7 +181,7 @@ fn options(words: Words) -> Result<Options, String> {
         files.extend(others.by_ref().map(PathBuf::from));
     }
     if let Some(word) = others.next() {
-        return Err(format!("{} is one word too many", hex::shown(word.as_bytes())));
+        return Err(format!("{} is one word too many", keys::shown(word.as_bytes())));
     }
     check(&words, action)?;
     let jobs = words.jobs.unwrap_or(1) as usize;

@@ -2,7 +2,7 @@
 
 use tyvarmos::{Fault, Number};
 
-use crate::hex;
+use crate::keys;
 use crate::layout::{Block, Header, Pages, FREELIST, LEAF};
 use crate::trace::Named;
 
@@ -81,5 +81,6 @@ fn order(block: &Block, i: u64) -> Option<String> {
     if block.header.kind == FREELIST {
         return Some(format!("{} is not above {}", block.number(i)?, block.number(before)?));
     }
-    Some(format!("{} is not above {}", hex::brief(block.key(i)?), hex::brief(block.key(before)?)))
+    let [key, before] = keys::pair([block.key(i)?, block.key(before)?]);
+    Some(format!("{key} is not above {before}"))
 }

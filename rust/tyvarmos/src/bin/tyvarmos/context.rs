@@ -5,9 +5,10 @@ use tyvarmos::{Fault, Image, Number};
 use crate::cause;
 use crate::layout::{Block, Element, Header, Pages, Part, FREELIST, LEAF};
 use crate::meant::Meant;
+use crate::parting::{Keys, Parting};
+use crate::range::Range;
 use crate::trace::{Named, Reached, Trace};
 use crate::twice::Twice;
-use crate::walk::Step;
 
 /// All that was found about a fault.
 pub struct Context {
@@ -21,8 +22,8 @@ pub struct Context {
     pub header: Option<(u64, Header)>,
     /// The numbers of the fault's element, and where in the file it stands.
     pub element: Option<(u64, Numbers)>,
-    /// For 7 the key, for 6 the key before it and the key.
-    pub keys: Vec<Vec<u8>>,
+    /// For 6 and 7, the keys and where they part.
+    pub keys: Keys,
     /// For 7, the range that the key is outside of.
     pub range: Option<Range>,
     /// The bytes in question, in rows.
@@ -43,20 +44,6 @@ pub enum Numbers {
     FreeId(u64),
 }
 
-/// An end of a range: a separator, and the element that holds it.
-pub struct End {
-    pub key: Vec<u8>,
-    pub step: Step,
-}
-
-/// From the lower end up to, not including, the upper one.
-pub struct Range {
-    pub low: Option<End>,
-    pub high: Option<End>,
-    /// Whether the key is below the lower end; else it is not below the upper one.
-    pub below: bool,
-}
-
 impl Context {
     /// The context of a fault in the tree that is meant, from the way to it.
     pub fn of(image: &Image, meant: &Meant, fault: &Fault, trace: Trace) -> Context {
@@ -67,21 +54,18 @@ impl Context {
         let place = |Reached { page, named }| Place { page, byte: byte_of(pages, meant, &named), named };
         let named = trace.fault.map(place);
         let cause = cause::of(pages, block.as_ref(), fault, named.as_ref().map(|place| &place.named));
-        let range = match &named {
-            Some(Place { named: Named::Tree(steps), .. }) if fault.number == Number::Range => {
-                range(pages, steps, block.as_ref(), fault.element)
-            }
-            _ => None,
-        };
+        let range = block.as_ref().and_then(|block| range(pages, block, fault, named.as_ref()?));
+        let keys = block.as_ref().map_or(Keys::None, |block| keys(block, fault, range.as_ref()));
+        let known = !matches!(keys, Keys::Unknown(_));
         Context {
-            cause: cause.or(twice.as_ref().map(Twice::to_string)),
+            cause: cause.filter(|_| known).or(twice.as_ref().map(Twice::to_string)),
             header: block.as_ref().map(|block| (block.start, block.header)),
             element: block.as_ref().and_then(|block| numbers(block, fault.element?)),
-            keys: block.as_ref().map_or(Vec::new(), |block| keys(block, fault)),
-            rows: block.map_or_else(|| naming_rows(pages, named.as_ref()), |block| rows(&block, fault)),
+            rows: block.map_or_else(|| naming_rows(pages, named.as_ref()), |block| rows(&block, fault, &keys)),
             named,
             twice: twice.zip(trace.first.map(|(_, first)| place(first))),
-            range,
+            range: range.filter(|_| known),
+            keys,
         }
     }
 }
@@ -107,28 +91,25 @@ fn numbers(block: &Block, i: u64) -> Option<(u64, Numbers)> {
     Some((block.element_byte(i)?, numbers))
 }
 
-/// The key that a fault with 6 or 7 is about; before it, for 6, the key that it is not above.
-fn keys(block: &Block, fault: &Fault) -> Vec<Vec<u8>> {
-    let elements = match (fault.number, fault.element) {
-        (Number::Order, Some(i)) if block.header.kind != FREELIST => i.saturating_sub(1)..=i,
-        (Number::Range, Some(i)) => i..=i,
-        _ => return Vec::new(),
-    };
-    elements.filter_map(|i| block.key(i)).map(<[u8]>::to_vec).collect()
+/// The range that a fault with 7 is about, where the way to its page tells it.
+fn range(pages: Pages, block: &Block, fault: &Fault, place: &Place) -> Option<Range> {
+    match (&place.named, fault.number) {
+        (Named::Tree(steps), Number::Range) => Range::around(pages, steps, block.key(fault.element?)?),
+        _ => None,
+    }
 }
 
-/// The range that the branches above give a page, and on which side of it a key of the page is.
-fn range(pages: Pages, steps: &[Step], block: Option<&Block>, element: Option<u64>) -> Option<Range> {
-    let end = |page, element| {
-        let key = pages.block(page)?.key(element)?.to_vec();
-        Some(End { key, step: Step { page, element } })
+/// The keys that a fault with 6 or 7 is about, and where they part.
+fn keys(block: &Block, fault: &Fault, range: Option<&Range>) -> Keys {
+    let Fault { number, element: Some(i), common, .. } = *fault else {
+        return Keys::None;
     };
-    let low = steps.last().and_then(|step| end(step.page, step.element));
-    let ends = |step: &&Step| pages.block(step.page).is_some_and(|block| step.element + 1 < block.count());
-    let high = steps.iter().rev().find(ends).and_then(|step| end(step.page, step.element + 1));
-    let key = block?.key(element?)?;
-    let below = low.as_ref().is_some_and(|low| key < low.key.as_slice());
-    Some(Range { low, high, below })
+    let parting = match number {
+        Number::Order if block.header.kind != FREELIST => Parting::of_order(block, i, common),
+        Number::Range => range.and_then(|range| Parting::of_range(block, i, range, common)),
+        _ => return Keys::None,
+    };
+    parting.map_or(Keys::Unknown(common), Keys::Parted)
 }
 
 /// The element that names a page which the image has not, in rows.
@@ -144,18 +125,13 @@ fn naming_rows(pages: Pages, place: Option<&Place>) -> String {
 }
 
 /// The header, element, id or keys that a fault is about, in rows.
-fn rows(block: &Block, fault: &Fault) -> String {
-    let pair = |part: fn(&Block<'_>, u64) -> Option<String>, i: u64| {
-        [i.checked_sub(1).and_then(|before| part(block, before)), part(block, i)]
-    };
-    let element = |block: &Block, i| block.element_part(i).map(|part| part.rows());
-    let key = |block: &Block, i| block.key_part(i).map(|part| part.rows());
+fn rows(block: &Block, fault: &Fault, keys: &Keys) -> String {
+    let element = |i: u64| block.element_part(i).map(|part| part.rows());
     let parts = match (fault.number, fault.element) {
         (_, None) => [block.header_part().map(|part| part.rows()), None],
-        (Number::Order, Some(i)) if block.header.kind == FREELIST => pair(element, i),
-        (Number::Order, Some(i)) => pair(key, i),
-        (Number::Range, Some(i)) => [element(block, i), key(block, i)],
-        (_, Some(i)) => [element(block, i), None],
+        (Number::Order, Some(i)) if block.header.kind == FREELIST => [i.checked_sub(1).and_then(element), element(i)],
+        (Number::Order, Some(i)) => [keys.rows().or_else(|| element(i)), None],
+        (_, Some(i)) => [element(i), keys.rows()],
     };
     parts.into_iter().flatten().collect()
 }

@@ -3,7 +3,7 @@
 use tyvarmos::Entry;
 
 use crate::file::{Read, Source};
-use crate::hex;
+use crate::keys;
 use crate::meant::Meant;
 use crate::refusal::Refusal;
 
@@ -32,7 +32,7 @@ pub fn to_entry<'a>(
 
 /// The tree of the bucket with this name in a tree.
 pub fn to_bucket(meant: &Meant, source: &Source, read: &Read, name: &[u8]) -> Result<Meant, Lost> {
-    let (shown, tree) = (hex::shown(name), meant.name());
+    let (shown, tree) = (keys::shown(name), meant.name());
     let Some(entry) = to_entry(meant, source, read, name).map_err(Lost::Refused)? else {
         return Err(Lost::Absent(format!("there is no bucket {shown} in the {tree}")));
     };

@@ -8,8 +8,8 @@ use tyvarmos::Entry;
 use crate::args::Options;
 use crate::descent::{self, Lost};
 use crate::file::{Lazy, Source};
-use crate::hex;
 use crate::json::Object;
+use crate::keys;
 use crate::meant::Meant;
 use crate::metas::Metas;
 use crate::object;
@@ -54,7 +54,7 @@ fn look(options: &Options, path: &Path) -> Result<u8, Stop> {
     lazy.reach(&meant.tree, &options.key)?;
     match descent::to_entry(&meant, &source, &lazy.read, &options.key) {
         Ok(Some(entry)) => asked.found(&entry),
-        Ok(None) => asked.absent(&format!("there is no key {} in the {}", hex::shown(&options.key), meant.name())),
+        Ok(None) => asked.absent(&format!("there is no key {} in the {}", keys::shown(&options.key), meant.name())),
         Err(refusal) => asked.refused(&refusal, Some(&meant)),
     }
 }
@@ -82,7 +82,7 @@ impl<'a> Asked<'a> {
             return self.put_object(0);
         }
         if let Some(bucket) = entry.bucket() {
-            tell(&format!("{} is a bucket, root page {}", hex::shown(&self.options.key), bucket.root_page));
+            tell(&format!("{} is a bucket, root page {}", keys::shown(&self.options.key), bucket.root_page));
         }
         match for_terminal(entry.value).filter(|_| io::stdout().is_terminal()) {
             None => put(entry.value).map(|()| 0),

@@ -2,11 +2,12 @@
 
 use std::fmt::Write;
 
-use crate::text;
-
 const ROW: usize = 16;
+/// Where in a row the digits start, how wide they are, and where the characters start.
+const DIGITS_AT: usize = 10;
+const DIGITS: usize = 3 * ROW - 1;
+const CHARACTERS_AT: usize = DIGITS_AT + DIGITS + 2;
 const MOST_ROWS: usize = 8;
-const LONGEST: usize = 64;
 
 /// The bytes as digits, two for each.
 pub fn digits(bytes: &[u8]) -> String {
@@ -27,31 +28,11 @@ pub fn parse(word: &[u8]) -> Option<Vec<u8>> {
     pairs.collect()
 }
 
-/// A key or a name for a person: as text where it is plain text, else as digits.
-pub fn shown(bytes: &[u8]) -> String {
-    match std::str::from_utf8(bytes) {
-        Ok(text) if !text.chars().any(text::is_hidden) => format!("\"{text}\""),
-        _ => format!("0x{}", digits(bytes)),
-    }
-}
-
-/// The same, cut after the first bytes where it is long.
-pub fn brief(bytes: &[u8]) -> String {
-    if bytes.len() <= LONGEST {
-        return shown(bytes);
-    }
-    let cut = (LONGEST - 3..=LONGEST).rev().find(|end| std::str::from_utf8(&bytes[..*end]).is_ok()).unwrap_or(LONGEST);
-    format!("{}.. ({} bytes)", shown(&bytes[..cut]), bytes.len())
-}
-
 /// Rows of digits and characters, each with its place; a long stretch is cut.
 pub fn rows(at: u64, bytes: &[u8]) -> String {
     let mut text = String::new();
-    for (i, row) in bytes.chunks(ROW).take(MOST_ROWS).enumerate() {
-        let pairs: Vec<String> = row.iter().map(|byte| format!("{byte:02x}")).collect();
-        let plain = |byte: &u8| if matches!(byte, b' '..=b'~') { char::from(*byte) } else { '.' };
-        let characters: String = row.iter().map(plain).collect();
-        let _ = writeln!(text, "    {:08x}  {:47}  {characters}", at + (i * ROW) as u64, pairs.join(" "));
+    for (i, bytes) in bytes.chunks(ROW).take(MOST_ROWS).enumerate() {
+        let _ = writeln!(text, "    {}", row(at + (i * ROW) as u64, bytes));
     }
     let left = bytes.len().saturating_sub(ROW * MOST_ROWS);
     if left > 0 {
@@ -60,18 +41,16 @@ pub fn rows(at: u64, bytes: &[u8]) -> String {
     text
 }
 
-#[cfg(test)]
-mod tests {
-    use super::*;
+/// A row of up to 16 bytes: their place, then digits, then characters.
+pub fn row(at: u64, bytes: &[u8]) -> String {
+    let pairs: Vec<String> = bytes.iter().map(|byte| format!("{byte:02x}")).collect();
+    let plain = |byte: &u8| if matches!(byte, b' '..=b'~') { char::from(*byte) } else { '.' };
+    let characters: String = bytes.iter().map(plain).collect();
+    format!("{at:08x}  {:DIGITS$}  {characters}", pairs.join(" "))
+}
 
-    #[test]
-    fn a_long_key_is_cut_between_characters() {
-        assert_eq!(brief(b"short"), "\"short\"");
-        assert_eq!(brief(&[b'x'; 64]), format!("\"{}\"", "x".repeat(64)));
-        assert_eq!(brief(&[b'x'; 65]), format!("\"{}\".. (65 bytes)", "x".repeat(64)));
-        assert_eq!(brief("ö".repeat(50).as_bytes()), format!("\"{}\".. (100 bytes)", "ö".repeat(32)));
-        let odd = ["x".as_bytes(), "ö".repeat(50).as_bytes()].concat();
-        assert_eq!(brief(&odd), format!("\"x{}\".. (101 bytes)", "ö".repeat(31)));
-        assert_eq!(brief(&[0xFF; 1_000]), format!("0x{}.. (1000 bytes)", "ff".repeat(64)));
-    }
+/// What stands below a row to mark the digits and the character of one of its bytes.
+pub fn marks(i: usize) -> String {
+    let (digits, character) = (DIGITS_AT + 3 * i, CHARACTERS_AT + i);
+    format!("{:digits$}^^{:gap$}^", "", "", gap = character - digits - 2)
 }

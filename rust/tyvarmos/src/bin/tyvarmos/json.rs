@@ -38,9 +38,9 @@ impl Object {
     }
 
     /// Adds a list of byte strings twice, as `bytes` does.
-    pub fn byte_strings(&mut self, name: &str, strings: &[Vec<u8>]) {
-        self.texts(name, strings.iter().map(|bytes| String::from_utf8_lossy(bytes).into_owned()));
-        self.texts(&format!("{name}_hex"), strings.iter().map(|bytes| hex::digits(bytes)));
+    pub fn byte_strings(&mut self, name: &str, strings: &[impl AsRef<[u8]>]) {
+        self.texts(name, strings.iter().map(|bytes| String::from_utf8_lossy(bytes.as_ref()).into_owned()));
+        self.texts(&format!("{name}_hex"), strings.iter().map(|bytes| hex::digits(bytes.as_ref())));
     }
 
     /// Adds a list of texts.

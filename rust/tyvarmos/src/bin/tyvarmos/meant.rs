@@ -3,7 +3,7 @@
 use tyvarmos::{Bucket, Entry, Fault, Image, Meta, Tree};
 
 use crate::args::{Action, Options};
-use crate::hex;
+use crate::keys;
 use crate::metas::Metas;
 
 const ROOT_AT: u64 = 56;
@@ -63,7 +63,7 @@ impl Meant {
 
     /// What the tree is called.
     pub fn name(&self) -> String {
-        let names: Vec<String> = self.names.iter().map(|name| hex::shown(name)).collect();
+        let names: Vec<String> = self.names.iter().map(|name| keys::shown(name)).collect();
         if names.is_empty() {
             "main tree".to_string()
         } else {

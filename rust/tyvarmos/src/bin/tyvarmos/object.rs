@@ -91,6 +91,7 @@ pub fn add_refusal(object: &mut Object, refusal: &Refusal, meant: Option<&Meant>
         object.number("number", fault.number.code());
         object.number_or_null("page", fault.page);
         object.number_or_null("element", fault.element);
+        object.number("common", fault.common);
         object.number_or_null("sizes", fault.geometry.and_then(sizes));
     }
     object.text("sentence", &refusal.sentence);

@@ -11,7 +11,7 @@ use tyvarmos::{Meta, Tree};
 use crate::args::{Numbers, Options};
 use crate::buckets::Buckets;
 use crate::file::Source;
-use crate::hex;
+use crate::keys;
 use crate::layout;
 use crate::meant::Meant;
 use crate::media;
@@ -103,7 +103,7 @@ pub fn below(refusal: &Refusal, meant: Option<&Meant>) -> String {
 /// Which tree was refused, or why none was, as the beginning of a sentence.
 pub fn refused(refusal: &Refusal, meant: Option<&Meant>, options: &Options) -> String {
     let towards = meant.and_then(|meant| options.buckets.get(meant.names.len()));
-    let way = towards.map_or(String::new(), |name| format!(" on the way to bucket {}", hex::shown(name)));
+    let way = towards.map_or(String::new(), |name| format!(" on the way to bucket {}", keys::shown(name)));
     match (&refusal.kind, meant) {
         (Kind::Beyond, _) => "beyond the limits of this version".to_string(),
         (Kind::Broken, None) => "refused, nothing judged".to_string(),
@@ -206,7 +206,7 @@ fn bucket_names(buckets: &Buckets) -> String {
     if buckets.count == 0 {
         return "none".to_string();
     }
-    let names: Vec<String> = buckets.names.iter().map(|name| hex::brief(name)).collect();
+    let names: Vec<String> = buckets.names.iter().map(|name| keys::brief(name)).collect();
     let more = buckets.count - names.len() as u64;
     let more = if more > 0 { format!(" and {more} more") } else { String::new() };
     format!("{}{more}: not judged here, name one with --bucket", names.join(", "))

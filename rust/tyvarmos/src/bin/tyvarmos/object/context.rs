@@ -1,9 +1,11 @@
 //! The context of a fault, as JSON.
 
-use crate::context::{Context, End, Numbers, Place, Range};
+use crate::context::{Context, Numbers, Place};
 use crate::json::Object;
 use crate::layout::Header;
 use crate::meant::Meant;
+use crate::parting::Keys;
+use crate::range::{End, Range};
 use crate::trace::Named;
 use crate::twice::Extent;
 use crate::walk::Step;
@@ -29,8 +31,10 @@ pub fn of(context: &Context, meant: &Meant) -> Object {
         object.number("element_byte", byte);
         object.number("element", number_object(numbers));
     }
-    if !context.keys.is_empty() {
-        object.byte_strings("keys", &context.keys);
+    if let Keys::Parted(parting) = &context.keys {
+        let keys = parting.sides.each_ref().map(|side| side.key.as_slice());
+        let end_told_in_range = usize::from(context.range.is_some());
+        object.byte_strings("keys", &keys[end_told_in_range..]);
     }
     if let Some(range) = &context.range {
         object.number("range", range_object(range));

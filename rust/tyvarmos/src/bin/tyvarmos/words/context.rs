@@ -1,9 +1,10 @@
 //! The context of a fault, in words.
 
-use crate::context::{Context, End, Numbers, Place, Range};
-use crate::hex;
+use crate::context::{Context, Numbers, Place};
+use crate::keys;
 use crate::layout::Header;
 use crate::meant::Meant;
+use crate::range::{End, Range};
 use crate::trace::Named;
 use crate::walk::Step;
 
@@ -27,6 +28,7 @@ pub fn lines(context: &Context, meant: &Meant, page: u64) -> String {
     if let Some(range) = &context.range {
         lines.push(format!("range     {}", range_words(range)));
     }
+    lines.extend(context.keys.lines().into_iter().map(|(name, line)| format!("{name:10}{line}")));
     let lines: String = lines.iter().map(|line| format!("  {line}\n")).collect();
     format!("  help      the lines below are read anew and not proved\n{lines}{}", context.rows)
 }
@@ -79,15 +81,12 @@ fn number_words(numbers: &Numbers) -> String {
 }
 
 fn range_words(range: &Range) -> String {
-    let end = |end: &End| {
-        let Step { page, element } = end.step;
-        format!("{} (element {element} of page {page})", hex::brief(&end.key))
-    };
-    let low = range.low.as_ref().map_or("the lowest key".to_string(), end);
-    let high = range
-        .high
-        .as_ref()
-        .map_or(" to the highest key".to_string(), |high| format!(" up to, not including, {}", end(high)));
+    let ends = [&range.low, &range.high].map(Option::as_ref);
+    let [low_key, high_key] = keys::pair(ends.map(|end| end.map_or(&[][..], |end| &end.key)));
+    let place = |End { step, .. }: &End, key| format!("{key} (element {} of page {})", step.element, step.page);
+    let low = ends[0].map_or("the lowest key".to_string(), |end| place(end, low_key));
+    let high = ends[1]
+        .map_or(" to the highest key".to_string(), |end| format!(" up to, not including, {}", place(end, high_key)));
     let crossed = if range.below { "below its lower end" } else { "not below its upper end" };
     format!("from {low}{high}: the key is {crossed}")
 }
