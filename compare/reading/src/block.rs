@@ -1,8 +1,8 @@
 //! "A sound page": rules 4 to 7, and the entries of a block that keeps them.
 
-use crate::common::common;
+use crate::common::common_length;
 use crate::layout::*;
-use crate::{at_page, refusal, Fault};
+use crate::{refusal, Fault};
 
 /// A leaf entry (the tag is its kind) or a branch entry (the tag is its page, the value empty).
 #[derive(Clone, Copy, Debug, PartialEq, Eq)]
@@ -59,7 +59,7 @@ pub fn block_bytes<'a>(image: &'a [u8], p: u64, n: u64, page: u64, kinds: &[u8])
     let header = header(&image[start..]);
     let last = u128::from(page) + u128::from(header.overflow);
     if header.id != page || !kinds.contains(&header.kind) || last >= u128::from(n) {
-        return Err(at_page(3, page));
+        return Err(Fault { number: 3, page, element: 0, common: 0 });
     }
     Ok(&image[start..start + ((header.overflow + 1) * p) as usize])
 }
@@ -94,9 +94,9 @@ fn read_block(bytes: &[u8], empty_allowed: bool) -> Result<Block<'_>, Fault> {
         block.places.push(place);
     }
     for element in 1..block.entries.len() {
-        let (key, before) = (block.entries[element].key, block.entries[element - 1].key);
+        let (before, key) = (block.entries[element - 1].key, block.entries[element].key);
         if key <= before {
-            return Err(Fault { common: common(key, before), ..element_fault(6, element) });
+            return Err(Fault { common: common_length(key, before), ..element_fault(6, element) });
         }
     }
     Ok(block)
@@ -125,5 +125,5 @@ fn read_element(bytes: &[u8], leaf: bool, element: usize, table_end: u128) -> Op
 
 /// A refusal that names an element of a single block.
 fn element_fault(number: u64, element: usize) -> Fault {
-    Fault { element: element as u64, ..refusal(number) }
+    Fault { number, page: 0, element: element as u64, common: 0 }
 }

@@ -1,9 +1,9 @@
-//! "Say where two keys part": 02's order 2.
+//! Where two keys part (02's order 2).
 
-/// How many bytes two keys have in common, from the first on.
-pub fn common(a: &[u8], b: &[u8]) -> u64 {
+/// The length of the common beginning: the bytes that are equal before the first that differs or either key's end.
+pub fn common_length(left: &[u8], right: &[u8]) -> u64 {
     let mut length = 0;
-    while length < a.len() && length < b.len() && a[length] == b[length] {
+    while length < left.len() && length < right.len() && left[length] == right[length] {
         length += 1;
     }
     length as u64

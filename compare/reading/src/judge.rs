@@ -1,11 +1,11 @@
 //! "A sound image": the judge's walk over a tree, then the freelist page. Rule 3 as 02's order 3 has it: directly after
-//! rule 4, over every page of the block. Rule 8 tells the common beginning of two keys, as order 2 has it.
+//! rule 4, over every page of the block.
 
 use crate::block::{block_bytes, page_block, Block};
-use crate::common::common;
+use crate::common::common_length;
 use crate::layout::*;
 use crate::lookup::check_reached;
-use crate::{at_page, Fault};
+use crate::Fault;
 
 /// What a passing image answers: leaf entries, and pages reached with those of the freelist block.
 #[derive(Clone, Copy, Debug, PartialEq, Eq)]
@@ -63,7 +63,7 @@ impl<'a> Walk<'a> {
         let end = page + bytes.len() as u64 / self.p;
         let marks = &mut self.marks[page as usize..end as usize];
         if let Some(i) = marks.iter().position(|mark| *mark) {
-            return Err(at_page(8, page + i as u64));
+            return Err(Fault { number: 8, page: page + i as u64, element: 0, common: 0 });
         }
         marks.fill(true);
         Ok(bytes)
@@ -75,11 +75,11 @@ impl<'a> Walk<'a> {
         let bytes = self.mark_block(page, &[FREELIST])?;
         let count = header(bytes).count;
         if TABLE_START as u128 + u128::from(count) * 8 > bytes.len() as u128 {
-            return Err(at_page(4, page));
+            return Err(Fault { number: 4, page, element: 0, common: 0 });
         }
         let ids: Vec<u64> = (0..count as usize).map(|i| u64_at(bytes, TABLE_START + 8 * i)).collect();
         let named = |number, breach: Option<usize>| match breach {
-            Some(i) => Err(Fault { element: i as u64, ..at_page(number, page) }),
+            Some(i) => Err(Fault { number, page, element: i as u64, common: 0 }),
             None => Ok(()),
         };
         named(5, ids.iter().position(|id| *id < 2 || *id >= self.n))?;
@@ -88,17 +88,17 @@ impl<'a> Walk<'a> {
     }
 }
 
-/// Rule 8: every key inside the range.
+/// Rule 8: every key inside the range; a breach tells how far the key goes with the end it crossed.
 fn check_range(block: &Block, page: u64, range: Range) -> Result<(), Fault> {
     for (i, entry) in block.entries.iter().enumerate() {
         if let Some(end) = crossed(entry.key, range) {
-            return Err(Fault { element: i as u64, common: common(entry.key, end), ..at_page(7, page) });
+            return Err(Fault { number: 7, page, element: i as u64, common: common_length(entry.key, end) });
         }
     }
     Ok(())
 }
 
-/// The end of the range that a key is outside of, the lower end first.
+/// The end of the range that this key crosses, the lower end first, or nothing.
 fn crossed<'a>(key: &[u8], range: Range<'a>) -> Option<&'a [u8]> {
     if key < range.low {
         return Some(range.low);

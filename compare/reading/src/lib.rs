@@ -17,8 +17,9 @@ pub mod search;
 pub mod split;
 pub mod words;
 
-/// A refusal: 01's number, the page and element it names, 0 where none, and for two keys in 6 or 7 the length of their
-/// common beginning, 0 with every other number.
+/// A refusal: 01's number, and the page and element it names, 0 where none. `common` is the length of the common
+/// beginning of the two keys of a 6 (the key and the one before it) or a 7 (the key and the end of the range that it
+/// crossed); 0 for freelist ids and with every other number.
 #[derive(Clone, Copy, Debug, PartialEq, Eq)]
 pub struct Fault {
     pub number: u64,
@@ -29,10 +30,5 @@ pub struct Fault {
 
 /// The refusal with this number that names nothing.
 pub fn refusal(number: u64) -> Fault {
-    at_page(number, 0)
-}
-
-/// The refusal with this number that names a page.
-pub fn at_page(number: u64, page: u64) -> Fault {
-    Fault { number, page, element: 0, common: 0 }
+    Fault { number, page: 0, element: 0, common: 0 }
 }

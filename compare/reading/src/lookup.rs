@@ -2,7 +2,7 @@
 
 use crate::block::page_block;
 use crate::layout::{check_image, MAX_LEVEL};
-use crate::{at_page, Fault};
+use crate::Fault;
 
 /// A leaf entry found: its kind, and its value's offset in the image and length.
 #[derive(Clone, Copy, Debug, PartialEq, Eq)]
@@ -37,10 +37,10 @@ pub fn lookup(image: &[u8], p: u64, n: u64, root: u64, key: &[u8]) -> Result<Opt
 /// Rules 1 and 2: the level, then the page number.
 pub fn check_reached(page: u64, level: u64, n: u64) -> Result<(), Fault> {
     if level > MAX_LEVEL {
-        return Err(at_page(9, page));
+        return Err(Fault { number: 9, page, element: 0, common: 0 });
     }
     if page < 2 || page >= n {
-        return Err(at_page(2, page));
+        return Err(Fault { number: 2, page, element: 0, common: 0 });
     }
     Ok(())
 }

@@ -3,7 +3,7 @@
 use std::collections::BTreeMap;
 use std::ffi::OsStr;
 
-use reading::common::common;
+use reading::common::common_length;
 use reading::layout::{header, u64_at, BRANCH, FREELIST, LEAF};
 
 use crate::damage::damage;
@@ -50,7 +50,7 @@ fn check_range(bytes: &[u8], told: &Value, page: u64, element: u64) {
     let key = key(bytes, page, element);
     let crossed = end(&range[range["crossed"].text()]);
     assert_eq!(range["crossed"].text() == "low", key < crossed.as_slice());
-    assert_eq!(told["common"].number(), Some(common(key, &crossed)));
+    assert_eq!(told["common"].number(), Some(common_length(key, &crossed)));
     check_keys(told, &[key]);
 }
 
@@ -62,7 +62,7 @@ fn check_order(bytes: &[u8], told: &Value, page: u64, element: u64) {
     }
     let (before, key) = (key(bytes, page, element - 1), key(bytes, page, element));
     assert!(key <= before);
-    assert_eq!(told["common"].number(), Some(common(key, before)));
+    assert_eq!(told["common"].number(), Some(common_length(key, before)));
     check_keys(told, &[before, key]);
 }
 
