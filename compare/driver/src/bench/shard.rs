@@ -1,7 +1,10 @@
-//! Lookup and the judge on a shard of characters, beside `Bucket::get`, `DB::check` and a plain read of the image.
+//! Lookup and the judge on a shard of characters, beside the crate's, other stores', plain C and a plain read.
 
 use oracle::probe::file;
 use oracle::{Bucket, Tx, DB};
+use peers::lmdb::Lmdb;
+use peers::sqlite::Sqlite;
+use peers::Entry;
 use proved::Proved;
 use subject::Subject;
 
@@ -21,16 +24,20 @@ pub fn run(table: &mut Table, characters: usize) {
     let mut rng = Rng::new(1);
     let file = Temporary::new("bench");
     let db = open(&file.path, PAGE_SIZE);
-    let keys = fill(&db, &mut rng, characters, SHORT);
+    let entries = fill(&db, &mut rng, characters, SHORT);
     let tx = db.tx(false).unwrap();
     let bucket = tx.get_bucket(BUCKET).unwrap();
     let shard = Shard::new(&tx, &file, format!("{characters} characters"));
-    let present: Vec<Vec<u8>> = (0..LOOKUPS).map(|_| rng.pick(&keys)).collect();
+    let present: Vec<Vec<u8>> = (0..LOOKUPS).map(|_| entries[rng.below(characters)].0.clone()).collect();
     let absent: Vec<Vec<u8>> = present.iter().map(|key| [key.as_slice(), b"!"].concat()).collect();
     shard.lookups(table, &bucket, "a key that is there", &present);
     shard.lookups(table, &bucket, "a key that is not", &absent);
     shard.values(table, &bucket, &present);
+    shard.limits(table, "a key that is there", &present);
+    shard.limits(table, "a key that is not", &absent);
+    shard.beside_lmdb(table, &entries, &present);
     shard.judges(table, &db);
+    shard.beside_sqlite(table, &entries);
 }
 
 /// Times the judge on a shard of so many characters with long values.
@@ -56,12 +63,26 @@ impl Shard {
         Shard { view, root: file::root(&tx.get_bucket(BUCKET).unwrap()), name }
     }
 
-    fn lookup(&self, key: &[u8]) -> (u64, usize, usize) {
+    /// Lookup's number and fields.
+    fn lookup(&self, key: &[u8]) -> (u64, [u64; 7]) {
         let mut answer = [0; 56];
         let (p, n) = (self.view.meta.pagesize, self.view.meta.num_pages);
-        Proved.lookup(&self.view.bytes, p, n, self.root, key, &mut answer);
-        let field = |i: usize| u64::from_le_bytes(answer[i * 8..i * 8 + 8].try_into().unwrap());
-        (field(0), field(2) as usize, field(3) as usize)
+        let number = Proved.lookup(&self.view.bytes, p, n, self.root, key, &mut answer);
+        (number, std::array::from_fn(|i| u64::from_le_bytes(answer[i * 8..i * 8 + 8].try_into().unwrap())))
+    }
+
+    /// The same by plain C.
+    fn limit(&self, key: &[u8]) -> (u64, [u64; 7]) {
+        let mut answer = [0; 7];
+        let (p, n) = (self.view.meta.pagesize, self.view.meta.num_pages);
+        let number = limit::lookup(&self.view.bytes, p, n, self.root, key, &mut answer);
+        (number, answer)
+    }
+
+    /// The value that lookup finds.
+    fn value(&self, key: &[u8]) -> &[u8] {
+        let (_, [_, _, place, length, ..]) = self.lookup(key);
+        &self.view.bytes[place as usize..][..length as usize]
     }
 
     fn lookups(&self, table: &mut Table, bucket: &Bucket, which: &str, keys: &[Vec<u8>]) {
@@ -79,10 +100,7 @@ impl Shard {
         let call = format!("lookup and the value read, {}", self.name);
         let race = Race { call, peer: "Bucket::get", times: keys.len(), goal: Some(2.0) };
         let sum = |value: &[u8]| value.iter().map(|byte| u64::from(*byte)).sum::<u64>();
-        let ours = |key: &[u8]| {
-            let (_, place, length) = self.lookup(key);
-            sum(&self.view.bytes[place..place + length])
-        };
+        let ours = |key: &[u8]| sum(self.value(key));
         let theirs = |key: &[u8]| sum(bucket.get_kv(key).unwrap().value());
         assert!(keys.iter().all(|key| ours(key) == theirs(key)), "the same values");
         table.race(
@@ -92,37 +110,74 @@ impl Shard {
         );
     }
 
-    fn judges(&self, table: &mut Table, db: &DB) {
+    /// Lookup beside the same checks in plain C.
+    fn limits(&self, table: &mut Table, which: &str, keys: &[Vec<u8>]) {
+        let call = format!("lookup, {which}, {}", self.name);
+        let race = Race { call, peer: "the same checks in plain C", times: keys.len(), goal: Some(1.1) };
+        assert!(keys.iter().all(|key| self.lookup(key) == self.limit(key)), "the same answers");
+        table.race(
+            race,
+            || keys.iter().for_each(|key| keep(self.lookup(key))),
+            || keys.iter().for_each(|key| keep(self.limit(key))),
+        );
+    }
+
+    fn beside_lmdb(&self, table: &mut Table, entries: &[Entry], keys: &[Vec<u8>]) {
+        let file = Temporary::new("bench-lmdb");
+        let lmdb = Lmdb::filled(&file.path, entries);
+        let call = format!("lookup, a key that is there, {}", self.name);
+        let race = Race { call, peer: "LMDB's mdb_get", times: keys.len(), goal: None };
+        assert!(keys.iter().all(|key| Some(self.value(key)) == lmdb.get(key)), "the same values");
+        table.race(
+            race,
+            || keys.iter().for_each(|key| keep(self.lookup(key))),
+            || keys.iter().for_each(|key| keep(lmdb.get(key))),
+        );
+    }
+
+    fn judge(&self) -> u64 {
         let (bytes, meta) = (&self.view.bytes, &self.view.meta);
-        let judge = || {
-            let mut answer = [0; 40];
-            Proved.judge(bytes, meta.pagesize, meta.num_pages, self.root, meta.freelist_page, &mut answer)
-        };
-        assert_eq!((judge(), db.check()), (0, Ok(())), "both pass");
+        Proved.judge(bytes, meta.pagesize, meta.num_pages, self.root, meta.freelist_page, &mut [0; 40])
+    }
+
+    fn judges(&self, table: &mut Table, db: &DB) {
+        assert_eq!((self.judge(), db.check()), (0, Ok(())), "both pass");
         let call = format!("judge, {}", self.name);
         let race = Race { call: call.clone(), peer: "DB::check", times: 1, goal: Some(1.5) };
-        table.race(race, || keep(judge()), || keep(db.check()));
+        table.race(race, || keep(self.judge()), || keep(db.check()));
         let race = Race { call, peer: "a plain read of the image", times: 1, goal: None };
-        let read = || bytes.chunks_exact(8).map(|word| u64::from_le_bytes(word.try_into().unwrap()));
-        table.race(race, || keep(judge()), || keep(read().fold(0, u64::wrapping_add)));
+        let read = || self.view.bytes.chunks_exact(8).map(|word| u64::from_le_bytes(word.try_into().unwrap()));
+        table.race(race, || keep(self.judge()), || keep(read().fold(0, u64::wrapping_add)));
+    }
+
+    fn beside_sqlite(&self, table: &mut Table, entries: &[Entry]) {
+        let file = Temporary::new("bench-sqlite");
+        let sqlite = Sqlite::filled(&file.path, entries);
+        let call = format!("judge, {}", self.name);
+        let race = Race { call, peer: "SQLite's PRAGMA integrity_check", times: 1, goal: Some(0.15) };
+        table.race(race, || keep(self.judge()), || assert_eq!(sqlite.check(), "ok", "it passes"));
     }
 }
 
-/// Puts so many characters with values of a length between these, a thousand in a transaction, and answers their keys.
-fn fill(db: &DB, rng: &mut Rng, characters: usize, (shortest, longest): (u64, u64)) -> Vec<Vec<u8>> {
+/// Puts so many characters with values of a length between these, a thousand in a transaction, and answers them.
+fn fill(db: &DB, rng: &mut Rng, characters: usize, (shortest, longest): (u64, u64)) -> Vec<Entry> {
     let mut keys: Vec<Vec<u8>> = (0..characters).map(|i| key(rng, i)).collect();
     rng.shuffle(&mut keys);
-    for part in keys.chunks(1_000) {
+    let mut value = || {
+        let length = rng.between(shortest, longest) as usize;
+        rng.bytes(length)
+    };
+    let entries: Vec<Entry> = keys.into_iter().map(|key| (key, value())).collect();
+    for part in entries.chunks(1_000) {
         let tx = db.tx(true).unwrap();
         let bucket = tx.get_or_create_bucket(BUCKET).unwrap();
-        for key in part {
-            let length = rng.between(shortest, longest) as usize;
-            bucket.put(key.clone(), rng.bytes(length)).unwrap();
+        for (key, value) in part {
+            bucket.put(key.clone(), value.clone()).unwrap();
         }
         drop(bucket);
         tx.commit().unwrap();
     }
-    keys
+    entries
 }
 
 /// A character's key: the account, then the name.
