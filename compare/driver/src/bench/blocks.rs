@@ -7,13 +7,16 @@ use oracle::probe::{write_content, Content, Item};
 use proved::Proved;
 use subject::{Branch, Leaf, Subject};
 
-use super::timing::{keep, Race, Table};
+use super::timing::{grouped, keep, Race, Table};
 use crate::rng::Rng;
 
 const P: u64 = 4_096;
 const CALLS: usize = 1_000;
+/// The least page size and the greatest page count.
+const LEAST_P: u64 = 1_024;
+const MOST_N: u64 = 32_768;
 
-/// Times the calls on a leaf and a branch of about a page, and the split of a leaf of four pages.
+/// Times the calls on a leaf and a branch of about a page, and the split of a leaf of four pages and of one of 1 MB.
 pub fn run(table: &mut Table) {
     let mut rng = Rng::new(2);
     let leaf = content(&mut rng, true, 18, 150);
@@ -24,6 +27,7 @@ pub fn run(table: &mut Table) {
     edits(table, &leaf, &block);
     insert_branch(table, &branch, &write_content(&branch, P, 2, 0));
     splits(table, &write_content(&long, P, 2, 0));
+    split_wide(table, &content(&mut rng, true, 3_900, 210));
 }
 
 /// So many entries of realistic keys, with values of so many bytes.
@@ -103,4 +107,18 @@ fn splits(table: &mut Table, block: &[u8]) {
         again(|| Proved.split_write(black_box(block), P, 64, &pages, &mut out, &mut [0; 40])),
         again(|| by_crate.split_write()),
     );
+}
+
+/// The split of a leaf of about the greatest size into pieces of two entries, at the least page size.
+fn split_wide(table: &mut Table, leaf: &Content) {
+    let block = write_content(leaf, LEAST_P, 2, 0);
+    let mut by_crate = Blocks::new(&block, LEAST_P, 1);
+    let pieces = by_crate.split();
+    let pages: Vec<u64> = (0..pieces as u64).map(|i| 2 + i).collect();
+    let mut out = vec![0; pieces * LEAST_P as usize];
+    let mut ours = || Proved.split_write(black_box(&block), LEAST_P, MOST_N, &pages, &mut out, &mut [0; 40]);
+    assert_eq!(ours(), 0, "written");
+    let call = format!("split of a node of {} pieces, the pieces written", grouped(pieces));
+    let race = Race { call, peer: "from_page, split, write_node", times: 1, goal: Some(1.0) };
+    table.race(race, || keep(ours()), || keep(by_crate.split_write()));
 }

@@ -8,7 +8,7 @@ use peers::Entry;
 use proved::Proved;
 use subject::Subject;
 
-use super::timing::{keep, Race, Table};
+use super::timing::{grouped, keep, Race, Table};
 use crate::parts::files::{open, Temporary, View};
 use crate::rng::Rng;
 
@@ -27,7 +27,7 @@ pub fn run(table: &mut Table, characters: usize) {
     let entries = fill(&db, &mut rng, characters, SHORT);
     let tx = db.tx(false).unwrap();
     let bucket = tx.get_bucket(BUCKET).unwrap();
-    let shard = Shard::new(&tx, &file, format!("{characters} characters"));
+    let shard = Shard::new(&tx, &file, format!("{} characters", grouped(characters)));
     let present: Vec<Vec<u8>> = (0..LOOKUPS).map(|_| entries[rng.below(characters)].0.clone()).collect();
     let absent: Vec<Vec<u8>> = present.iter().map(|key| [key.as_slice(), b"!"].concat()).collect();
     shard.lookups(table, &bucket, "a key that is there", &present);

@@ -8,7 +8,7 @@ use proved::Proved;
 use reading::words::TABLE_WORDS;
 use subject::Subject;
 
-use super::timing::{keep, Race, Table};
+use super::timing::{grouped, keep, Race, Table};
 use crate::rng::Rng;
 
 const P: u64 = 4_096;
@@ -49,8 +49,8 @@ fn allocate(table: &mut Table, which: &str, ids: &[u64], pages: u64) {
 
 fn fnv(table: &mut Table, bytes: &[u8]) {
     let times = 1 + 100_000 / bytes.len();
-    let race =
-        Race { call: format!("FNV-1a of {} bytes", bytes.len()), peer: "the crate's hasher", times, goal: Some(1.0) };
+    let call = format!("FNV-1a of {} bytes", grouped(bytes.len()));
+    let race = Race { call, peer: "the crate's hasher", times, goal: Some(1.0) };
     table.race(
         race,
         || (0..times).for_each(|_| keep(Proved.fnv1a(black_box(bytes), &mut [0; 8]))),

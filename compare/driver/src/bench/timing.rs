@@ -70,6 +70,13 @@ impl Table {
     }
 }
 
+/// A number with a comma before every three digits.
+pub fn grouped(number: usize) -> String {
+    let digits = number.to_string();
+    let groups: Vec<_> = digits.as_bytes().rchunks(3).rev().map(String::from_utf8_lossy).collect();
+    groups.join(",")
+}
+
 /// Takes a value as one that is needed, so that the work for it is done.
 pub fn keep<T>(value: T) {
     drop(black_box(value));
