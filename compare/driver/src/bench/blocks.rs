@@ -40,8 +40,8 @@ fn content(rng: &mut Rng, leaf: bool, count: u64, value: usize) -> Content {
     Content { leaf, items: (0..count).map(item).collect() }
 }
 
-fn race(call: &str, peer: &'static str, goal: Option<f64>) -> Race<'static> {
-    Race { call: call.into(), peer, times: CALLS, goal }
+fn race(call: &str, peer: &'static str, goal: f64) -> Race<'static> {
+    Race { call: call.into(), peer, times: CALLS, goal: Some(goal) }
 }
 
 fn again(mut call: impl FnMut() -> u64) -> impl FnMut() {
@@ -54,7 +54,7 @@ fn index(table: &mut Table, leaf: &Content, block: &[u8]) {
     let ours = || Proved.index(black_box(block), P, key, &mut [0; 40]);
     let call = "index, the whole block checked first";
     table.race(
-        race(call, "the crate's index, which checks nothing", None),
+        race(call, "the crate's index, which checks nothing", 4.0),
         again(ours),
         again(|| by_crate.index(black_box(key)).0 as u64),
     );
@@ -67,13 +67,13 @@ fn edits(table: &mut Table, leaf: &Content, block: &[u8]) {
     let entry = Item { tag: 0, key, value: vec![7; 150] };
     let new = Leaf { key: &entry.key, kind: 0, value: &entry.value };
     table.race(
-        race("insert, node read and written", "from_page, insert_data, write_node", Some(2.0)),
+        race("insert, node read and written", "from_page, insert_data, write_node", 1.0),
         again(|| Proved.insert(black_box(block), P, new, &mut out, &mut [0; 32])),
         again(|| by_crate.insert(black_box(&entry))),
     );
     let last = leaf.items.len() as u64 / 2;
     table.race(
-        race("delete, node read and written", "from_page, delete, write_node", Some(2.0)),
+        race("delete, node read and written", "from_page, delete, write_node", 1.0),
         again(|| Proved.delete(black_box(block), P, last, &mut out, &mut [0; 72])),
         again(|| by_crate.delete(black_box(last as usize))),
     );
@@ -85,7 +85,7 @@ fn insert_branch(table: &mut Table, branch: &Content, block: &[u8]) {
     let key = [branch.items[30].key.as_slice(), b"+"].concat();
     let new = Branch { original: None, key: &key, child: 9 };
     table.race(
-        race("insert_branch, node read and written", "from_page, insert_branch, write_node", Some(2.0)),
+        race("insert_branch, node read and written", "from_page, insert_branch, write_node", 1.0),
         again(|| Proved.insert_branch(black_box(block), P, new, &mut out, &mut [0; 32])),
         again(|| by_crate.insert_branch(black_box(&key), 9)),
     );
@@ -95,7 +95,7 @@ fn splits(table: &mut Table, block: &[u8]) {
     let mut by_crate = Blocks::new(block, P, 4);
     let mut cuts = [0; 64];
     table.race(
-        race("split of 80 entries, the cuts", "from_page, split", Some(2.0)),
+        race("split of 80 entries, the cuts", "from_page, split", 1.0),
         again(|| Proved.split(black_box(block), P, &mut cuts, &mut [0; 32])),
         again(|| by_crate.split() as u64),
     );
@@ -103,7 +103,7 @@ fn splits(table: &mut Table, block: &[u8]) {
     let mut out = vec![0; 32 * P as usize];
     assert_eq!(Proved.split_write(block, P, 64, &pages, &mut out, &mut [0; 40]), 0, "written");
     table.race(
-        race("split of 80 entries, the pieces written", "from_page, split, write_node", Some(2.0)),
+        race("split of 80 entries, the pieces written", "from_page, split, write_node", 1.0),
         again(|| Proved.split_write(black_box(block), P, 64, &pages, &mut out, &mut [0; 40])),
         again(|| by_crate.split_write()),
     );

@@ -87,7 +87,7 @@ impl Shard {
 
     fn lookups(&self, table: &mut Table, bucket: &Bucket, which: &str, keys: &[Vec<u8>]) {
         let call = format!("lookup, {which}, {}", self.name);
-        let race = Race { call, peer: "Bucket::get", times: keys.len(), goal: Some(2.0) };
+        let race = Race { call, peer: "Bucket::get", times: keys.len(), goal: Some(1.45) };
         table.race(
             race,
             || keys.iter().for_each(|key| keep(self.lookup(key))),
@@ -98,7 +98,7 @@ impl Shard {
     /// The value's bytes, each of them looked at.
     fn values(&self, table: &mut Table, bucket: &Bucket, keys: &[Vec<u8>]) {
         let call = format!("lookup and the value read, {}", self.name);
-        let race = Race { call, peer: "Bucket::get", times: keys.len(), goal: Some(2.0) };
+        let race = Race { call, peer: "Bucket::get", times: keys.len(), goal: Some(1.45) };
         let sum = |value: &[u8]| value.iter().map(|byte| u64::from(*byte)).sum::<u64>();
         let ours = |key: &[u8]| sum(self.value(key));
         let theirs = |key: &[u8]| sum(bucket.get_kv(key).unwrap().value());
@@ -143,7 +143,7 @@ impl Shard {
     fn judges(&self, table: &mut Table, db: &DB) {
         assert_eq!((self.judge(), db.check()), (0, Ok(())), "both pass");
         let call = format!("judge, {}", self.name);
-        let race = Race { call: call.clone(), peer: "DB::check", times: 1, goal: Some(1.5) };
+        let race = Race { call: call.clone(), peer: "DB::check", times: 1, goal: Some(0.9) };
         table.race(race, || keep(self.judge()), || keep(db.check()));
         let race = Race { call, peer: "a plain read of the image", times: 1, goal: None };
         let read = || self.view.bytes.chunks_exact(8).map(|word| u64::from_le_bytes(word.try_into().unwrap()));

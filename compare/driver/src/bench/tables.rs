@@ -50,7 +50,7 @@ fn allocate(table: &mut Table, which: &str, ids: &[u64], pages: u64) {
 fn fnv(table: &mut Table, bytes: &[u8]) {
     let times = 1 + 100_000 / bytes.len();
     let call = format!("FNV-1a of {} bytes", grouped(bytes.len()));
-    let race = Race { call, peer: "the crate's hasher", times, goal: Some(1.0) };
+    let race = Race { call, peer: "the crate's hasher", times, goal: Some(1.05) };
     table.race(
         race,
         || (0..times).for_each(|_| keep(Proved.fnv1a(black_box(bytes), &mut [0; 8]))),

@@ -58,7 +58,7 @@ impl Table {
         println!("| call | beside | ours, ns | theirs, ns | ratio | goal |");
         println!("|---|---|---:|---:|---:|---:|");
         for line in &self.lines {
-            let goal = line.goal.map_or(String::new(), |goal| format!("{goal:.1}"));
+            let goal = line.goal.map_or(String::new(), |goal| format!("{goal:?}"));
             let Line { call, peer, ours, theirs, .. } = line;
             println!("| {call} | {peer} | {ours:.0} | {theirs:.0} | {:.2} | {goal} |", ours / theirs);
         }
