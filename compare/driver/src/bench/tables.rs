@@ -41,9 +41,9 @@ fn allocate(table: &mut Table, which: &str, ids: &[u64], pages: u64) {
     table.race_with(
         race,
         || words.clone(),
-        |mut words| (0..CALLS).for_each(|_| keep(Proved.allocate(&mut words, N, P, bytes, &mut [0; 16]))),
+        |words| (0..CALLS).for_each(|_| keep(Proved.allocate(words, N, P, bytes, &mut [0; 16]))),
         || by_crate.copy(),
-        |mut free| (0..CALLS).for_each(|_| keep(free.allocate(bytes))),
+        |free| (0..CALLS).for_each(|_| keep(free.allocate(bytes))),
     );
 }
 

@@ -30,17 +30,17 @@ pub struct Table {
 impl Table {
     /// Times both for a number of rounds in turn. Each closure makes `times` calls.
     pub fn race(&mut self, race: Race<'static>, mut ours: impl FnMut(), mut theirs: impl FnMut()) {
-        self.race_with(race, || (), |()| ours(), || (), |()| theirs());
+        self.race_with(race, || (), |_| ours(), || (), |_| theirs());
     }
 
-    /// The same, where each round of a side starts from what its `make` gives, which is not timed.
+    /// The same, where each round of a side works on what its `make` gives; to make and to drop it is not timed.
     pub fn race_with<A, B>(
         &mut self,
         race: Race<'static>,
         mut make_ours: impl FnMut() -> A,
-        mut ours: impl FnMut(A),
+        mut ours: impl FnMut(&mut A),
         mut make_theirs: impl FnMut() -> B,
-        mut theirs: impl FnMut(B),
+        mut theirs: impl FnMut(&mut B),
     ) {
         let mut taken = [Vec::new(), Vec::new()];
         for _ in 0..ROUNDS {
@@ -82,9 +82,9 @@ pub fn keep<T>(value: T) {
     drop(black_box(value));
 }
 
-fn timed<A>(input: A, call: &mut impl FnMut(A)) -> f64 {
+fn timed<A>(mut made: A, call: &mut impl FnMut(&mut A)) -> f64 {
     let start = Instant::now();
-    call(input);
+    call(&mut made);
     start.elapsed().as_nanos() as f64
 }
 
