@@ -1,4 +1,4 @@
-//! Runs the comparison, `compare [--rounds K] [--seed S] [PART ..]`, or the benchmark, `compare --bench`.
+//! Runs the comparison, `compare [--rounds K] [--seed S] [PART ..]`, or the benchmark, `compare --bench [RUNS]`.
 
 #[cfg(feature = "proved")]
 mod bench;
@@ -61,7 +61,7 @@ impl Options {
 fn main() -> ExitCode {
     #[cfg(feature = "proved")]
     if std::env::args().nth(1).as_deref() == Some("--bench") {
-        bench::run();
+        bench::run(std::env::args().nth(2).map_or(3, |runs| runs.parse().expect("a number of runs")));
         return ExitCode::SUCCESS;
     }
     let options = options();

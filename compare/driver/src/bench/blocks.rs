@@ -11,7 +11,7 @@ use super::timing::{grouped, keep, Race, Table};
 use crate::rng::Rng;
 
 const P: u64 = 4_096;
-const CALLS: usize = 1_000;
+const CALLS: usize = 100;
 /// The least page size and the greatest page count.
 const LEAST_P: u64 = 1_024;
 const MOST_N: u64 = 32_768;
@@ -40,7 +40,7 @@ fn content(rng: &mut Rng, leaf: bool, count: u64, value: usize) -> Content {
     Content { leaf, items: (0..count).map(item).collect() }
 }
 
-fn race(call: &str, peer: &'static str, goal: f64) -> Race<'static> {
+fn race(call: &str, peer: &'static str, goal: f64) -> Race {
     Race { call: call.into(), peer, times: CALLS, goal: Some(goal) }
 }
 

@@ -14,7 +14,9 @@ use crate::rng::Rng;
 
 const PAGE_SIZE: u64 = 4_096;
 const BUCKET: &str = "characters";
+/// How many keys are looked up, and how many of them in a round.
 const LOOKUPS: usize = 10_000;
+const SLICE: usize = 500;
 /// The fewest and the most bytes of a value: a usual one's, and a long one's, of 2 to 350 pages.
 const SHORT: (u64, u64) = (80, 240);
 const LONG: (u64, u64) = (2 * PAGE_SIZE, 350 * PAGE_SIZE);
@@ -86,53 +88,33 @@ impl Shard {
     }
 
     fn lookups(&self, table: &mut Table, bucket: &Bucket, which: &str, keys: &[Vec<u8>]) {
-        let call = format!("lookup, {which}, {}", self.name);
-        let race = Race { call, peer: "Bucket::get", times: keys.len(), goal: Some(1.45) };
-        table.race(
-            race,
-            || keys.iter().for_each(|key| keep(self.lookup(key))),
-            || keys.iter().for_each(|key| keep(bucket.get(key))),
-        );
+        let race = self.race(&format!("lookup, {which}"), "Bucket::get", Some(1.45), SLICE);
+        race_keys(table, race, keys, |key| self.lookup(key), |key| bucket.get(key));
     }
 
     /// The value's bytes, each of them looked at.
     fn values(&self, table: &mut Table, bucket: &Bucket, keys: &[Vec<u8>]) {
-        let call = format!("lookup and the value read, {}", self.name);
-        let race = Race { call, peer: "Bucket::get", times: keys.len(), goal: Some(1.45) };
+        let race = self.race("lookup and the value read", "Bucket::get", Some(1.45), SLICE);
         let sum = |value: &[u8]| value.iter().map(|byte| u64::from(*byte)).sum::<u64>();
         let ours = |key: &[u8]| sum(self.value(key));
         let theirs = |key: &[u8]| sum(bucket.get_kv(key).unwrap().value());
         assert!(keys.iter().all(|key| ours(key) == theirs(key)), "the same values");
-        table.race(
-            race,
-            || keep(keys.iter().map(|key| ours(key)).sum::<u64>()),
-            || keep(keys.iter().map(|key| theirs(key)).sum::<u64>()),
-        );
+        race_keys(table, race, keys, ours, theirs);
     }
 
     /// Lookup beside the same checks in plain C.
     fn limits(&self, table: &mut Table, which: &str, keys: &[Vec<u8>]) {
-        let call = format!("lookup, {which}, {}", self.name);
-        let race = Race { call, peer: "the same checks in plain C", times: keys.len(), goal: Some(1.1) };
+        let race = self.race(&format!("lookup, {which}"), "the same checks in plain C", Some(1.1), SLICE);
         assert!(keys.iter().all(|key| self.lookup(key) == self.limit(key)), "the same answers");
-        table.race(
-            race,
-            || keys.iter().for_each(|key| keep(self.lookup(key))),
-            || keys.iter().for_each(|key| keep(self.limit(key))),
-        );
+        race_keys(table, race, keys, |key| self.lookup(key), |key| self.limit(key));
     }
 
     fn beside_lmdb(&self, table: &mut Table, entries: &[Entry], keys: &[Vec<u8>]) {
         let file = Temporary::new("bench-lmdb");
         let lmdb = Lmdb::filled(&file.path, entries);
-        let call = format!("lookup, a key that is there, {}", self.name);
-        let race = Race { call, peer: "LMDB's mdb_get", times: keys.len(), goal: None };
+        let race = self.race("lookup, a key that is there", "LMDB's mdb_get", None, SLICE);
         assert!(keys.iter().all(|key| Some(self.value(key)) == lmdb.get(key)), "the same values");
-        table.race(
-            race,
-            || keys.iter().for_each(|key| keep(self.lookup(key))),
-            || keys.iter().for_each(|key| keep(lmdb.get(key))),
-        );
+        race_keys(table, race, keys, |key| self.lookup(key), |key| lmdb.get(key));
     }
 
     fn judge(&self) -> u64 {
@@ -142,10 +124,9 @@ impl Shard {
 
     fn judges(&self, table: &mut Table, db: &DB) {
         assert_eq!((self.judge(), db.check()), (0, Ok(())), "both pass");
-        let call = format!("judge, {}", self.name);
-        let race = Race { call: call.clone(), peer: "DB::check", times: 1, goal: Some(0.9) };
+        let race = self.race("judge", "DB::check", Some(0.9), 1);
         table.race(race, || keep(self.judge()), || keep(db.check()));
-        let race = Race { call, peer: "a plain read of the image", times: 1, goal: None };
+        let race = self.race("judge", "a plain read of the image", None, 1);
         let read = || self.view.bytes.chunks_exact(8).map(|word| u64::from_le_bytes(word.try_into().unwrap()));
         table.race(race, || keep(self.judge()), || keep(read().fold(0, u64::wrapping_add)));
     }
@@ -153,10 +134,32 @@ impl Shard {
     fn beside_sqlite(&self, table: &mut Table, entries: &[Entry]) {
         let file = Temporary::new("bench-sqlite");
         let sqlite = Sqlite::filled(&file.path, entries);
-        let call = format!("judge, {}", self.name);
-        let race = Race { call, peer: "SQLite's PRAGMA integrity_check", times: 1, goal: Some(0.15) };
+        let race = self.race("judge", "SQLite's PRAGMA integrity_check", Some(0.15), 1);
         table.race(race, || keep(self.judge()), || assert_eq!(sqlite.check(), "ok", "it passes"));
     }
+
+    /// A race on this shard.
+    fn race(&self, call: &str, peer: &'static str, goal: Option<f64>, times: usize) -> Race {
+        Race { call: format!("{call}, {}", self.name), peer, goal, times }
+    }
+}
+
+/// Times two calls on the keys, in each round on the next slice of them. The two are half of the keys apart, so that
+/// neither finds in the cache what the other has just read.
+fn race_keys<A, B>(
+    table: &mut Table,
+    race: Race,
+    keys: &[Vec<u8>],
+    ours: impl Fn(&[u8]) -> A,
+    theirs: impl Fn(&[u8]) -> B,
+) {
+    let slices = |from: usize| keys[from..].chunks(SLICE).chain(keys[..from].chunks(SLICE)).cycle();
+    let (mut our_slices, mut their_slices) = (slices(0), slices(keys.len() / 2));
+    table.race(
+        race,
+        || our_slices.next().unwrap().iter().for_each(|key| keep(ours(key))),
+        || their_slices.next().unwrap().iter().for_each(|key| keep(theirs(key))),
+    );
 }
 
 /// Puts so many characters with values of a length between these, a thousand in a transaction, and answers them.
