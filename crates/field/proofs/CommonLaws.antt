@@ -16,7 +16,6 @@ use borrow.Author.Tests.{lt-ltb, le-ltb, eq-eqb, ne-eqb, eqb-true, eqb-false}
 use Rattle.field.specs.declared.order.Order.{Order}
 use Rattle.field.specs.declared.order.Order.the-variants.{Lower, Equal, Higher}
 use Rattle.field.specs.Order.{orderOf, commonOf, isLower}
-use Rattle.field.specs.Rising.{alikeUnlessLower}
 use Rattle.field.proofs.OrderLaws.{Ways, less, same, more, ways, head-same, order-equal, from-lower, from-higher, from-longer, from-shorter, from-ended}
 
 -- ---- a first byte that differs ends it
@@ -155,9 +154,6 @@ common-skip (x ∷ xs) (y ∷ ys) (suc i) l = go (common-skip xs ys i) (same-or-
     go ih (inr n) = absurd (omega (arith, head-apart x y xs ys n))
 
 module _ (a b : List ℕ) (i : ℕ) where
-  pub from-apart : i < length a → i < length b → (getD a i 0 ≡ getD b i 0 → ⊥) → commonOf (drop i a) (drop i b) ≡ 0
-  from-apart p q h = rw (drop-cons a i 0, drop-cons b i 0) (head-apart _ _ _ _ h)
-
   pub from-alike : i < length a → i < length b → getD a i 0 ≡ getD b i 0 → commonOf (drop i a) (drop i b) ≡ suc (commonOf (drop (i + 1) a) (drop (i + 1) b))
   from-alike p q h = rw (drop-cons a i 0 p, drop-cons b i 0 q, add-one) (head-alike _ _ _ _ h)
 
@@ -205,9 +201,25 @@ module _ (a b : List ℕ) (c : ℕ) (e : c ≡ commonOf a b) where
       go (inl q) = rest ∙ from-ended a b c l (omega arith)
       go (inr q) = absurd (let f = first-ended l (omega (arith, common-within a b)) in let z : _≡_ {A = ℕ} 0 1 = cc in omega arith)
 
--- ---- a key and the one that should be above it, which is, or is not
-pub rises : (a b : List ℕ) → isLower (orderOf a b) ≡ true → 0 ≡ alikeUnlessLower a b
-rises a b h = rw h
+-- ---- two keys that are alike in n bytes, which is the whole of one
+module _ (a b : List ℕ) (n : ℕ) (alike : n ≤ commonOf a b) (whole : (n ≡ length a) ⊎ (n ≡ length b)) where
+  pub ended : n ≡ commonOf a b
+  ended = ⊎-elim (λ e. omega (arith, common-within a b)) (λ e. omega (arith, common-within b a, common-flip a b)) whole
 
-pub rises-not : (a b : List ℕ) (c : ℕ) → c ≡ commonOf a b → isLower (orderOf a b) ≡ false → c + 1 ≡ alikeUnlessLower a b
-rises-not a b c e h = rw (h, e) (add-one (commonOf a b))
+  shorter : (n ≤ length a) × (n ≤ length b)
+  shorter = (omega (arith, common-within a b), omega (arith, common-within b a, common-flip a b))
+
+  pub by-length : isLower (orderOf a b) ≡ ltb (length a) (length b)
+  by-length = go (ways (length a) (length b))
+    where
+      none : length b ≤ length a → isLower (orderOf a b) ≡ ltb (length a) (length b)
+      none l =
+          let all : length b ≤ n = ⊎-elim (λ e. omega arith) (λ e. omega arith) whole in
+          second-ended a b n ended all ∙ sym (le-ltb _ _ l)
+
+      go : Ways (length a) (length b) → isLower (orderOf a b) ≡ ltb (length a) (length b)
+      go (less l) =
+          let all : n ≡ length a = ⊎-elim (λ e. e) (λ e. omega (arith, shorter .0)) whole in
+          first-ended a b n ended (omega arith) (omega arith) ∙ sym (lt-ltb _ _ l)
+      go (same e) = none (omega arith)
+      go (more l) = none (omega arith)

@@ -4,7 +4,7 @@
 use mathlib.Core.Path.{_≡_, refl, sym, ap, _∙_, subst}
 use mathlib.Core.List.{List, [], _∷_, _++_, append-assoc}
 use Prim.Native.Nat.{ℕ, zero, suc, _+_, _-_, _*_, _/_, _%_, _^_, _≤_, _<_}
-use native.Mathlib.Nat.{add-assoc, pow-suc, div-lt-iff-lt-mul, mul-suc, mul-le-mul-left}
+use native.Mathlib.Nat.{add-assoc, add-zero, pow-suc, div-lt-iff-lt-mul, mul-suc, mul-le-mul-left}
 use native.Mathlib.Omega.{arith}
 use lib.Dec.{lit<}
 use lib.ListN.{length, getD, set, take, drop, length-append, length-set}
@@ -87,3 +87,23 @@ pub field-drop : (w : ℕ) (s : List ℕ) (k at : ℕ) → field w (drop k s) at
 unfolding field
 field-drop zero s k at = refl
 field-drop (suc w) s k at = rw (getD-drop k s at 0, field-drop w s k (at + 1), add-assoc k at 1)
+
+pub field-part : (w : ℕ) (s : List ℕ) (at n : ℕ) → w ≤ n → field w (take n (drop at s)) 0 ≡ field w s at
+field-part w s at n h = field-take w (drop at s) 0 n (omega arith) ∙ field-drop w s at 0 ∙ ap (field w s) (add-zero at)
+
+-- ---- the bytes of a number that was read, the other way round
+big-tail : (w x : ℕ) (xs : List ℕ) (k : ℕ) → bigField w (x ∷ xs) (suc k) ≡ bigField w xs k
+unfolding bigField
+big-tail zero x xs k = refl
+big-tail (suc w) x xs k =
+    let e : suc k + 1 ≡ suc (k + 1) = omega arith in
+    rw e (ap (λ (n : ℕ). 256 ^ w * getD xs k 0 + n) (big-tail w x xs (k + 1)))
+
+pub turned-field : (w : ℕ) (s : List ℕ) (at : ℕ) → Bytes s → bigField w (bytesOf w (field w s at)) 0 ≡ bigField w s at
+unfolding field bytesOf bigField
+turned-field zero s at b = refl
+turned-field (suc w) s at b =
+    let low : (getD s at 0 + 256 * field w s (at + 1)) % 256 ≡ getD s at 0 = omega (arith, b at) in
+    let rest : (getD s at 0 + 256 * field w s (at + 1)) / 256 ≡ field w s (at + 1) = omega (arith, b at) in
+    rw (low, rest)
+    (ap (λ (n : ℕ). 256 ^ w * getD s at 0 + n) (big-tail w (getD s at 0) (bytesOf w (field w s (at + 1))) 0 ∙ turned-field w s (at + 1) b))

@@ -2,6 +2,5 @@
 pub mod Field
 pub mod Run
 pub mod Order
-pub mod Rising
 pub mod Marks
 pub mod Sizes

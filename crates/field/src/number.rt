@@ -30,26 +30,20 @@ pub fn byte_at(s: &[u8], at: usize) -> u64
     wide(s[at])
 }
 
-// The number of the four bytes from `at` on, the lowest first.
-fn four_at(s: &[u8], at: usize) -> u64
-    requires { ⌜ at + 4 ≤ length (now s) ⌝ }
-    ensures { λ r. ⌜ (r ≡ field 4 (now (s .entry)) at) × (r < 4294967296) ⌝ }
+// The number of four bytes, the lowest first. Their places are constants, so that it is one load in machine code wherever it is inlined.
+fn four(w: &[u8]) -> u64
+    requires { ⌜ 4 ≤ length (now w) ⌝ }
+    ensures { λ r. ⌜ (r ≡ field 4 (now (w .entry)) 0) × (r < 4294967296) ⌝ }
 {
-    let a1 = at + 1;
-    let a2 = a1 + 1;
-    let a3 = a2 + 1;
-    byte_at(s, at) + 256 * byte_at(s, a1) + 65536 * byte_at(s, a2) + 16777216 * byte_at(s, a3)
+    wide(w[0]) + 256 * wide(w[1]) + 65536 * wide(w[2]) + 16777216 * wide(w[3])
 }
 
-// The number of the four bytes from `at` on, the highest first.
-fn big_four_at(s: &[u8], at: usize) -> u64
-    requires { ⌜ at + 4 ≤ length (now s) ⌝ }
-    ensures { λ r. ⌜ (r ≡ bigField 4 (now (s .entry)) at) × (r < 4294967296) ⌝ }
+// The number of eight bytes, the lowest first: one load as well.
+fn eight(w: &[u8]) -> u64
+    requires { ⌜ 8 ≤ length (now w) ⌝ }
+    ensures { λ r. ⌜ r ≡ field 8 (now (w .entry)) 0 ⌝ }
 {
-    let a1 = at + 1;
-    let a2 = a1 + 1;
-    let a3 = a2 + 1;
-    16777216 * byte_at(s, at) + 65536 * byte_at(s, a1) + 256 * byte_at(s, a2) + byte_at(s, a3)
+    four(&w[0..4]) + 4294967296 * four(&w[4..8])
 }
 
 // The u32 of the four bytes from `at` on.
@@ -57,25 +51,46 @@ pub fn u32_at(s: &[u8], at: usize) -> u32
     requires { ⌜ at + 4 ≤ length (now s) ⌝ }
     ensures { λ r. ⌜ r ≡ field 4 (now (s .entry)) at ⌝ }
 {
-    four_at(s, at) as u32
+    let end = at + 4;
+    four(&s[at..end]) as u32
 }
 
-// The u64 of the eight bytes from `at` on. Read as two halves, it is one load in machine code.
+// The u64 of the eight bytes from `at` on.
 pub fn u64_at(s: &[u8], at: usize) -> u64
     requires { ⌜ at + 8 ≤ length (now s) ⌝ }
     ensures { λ r. ⌜ r ≡ field 8 (now (s .entry)) at ⌝ }
 {
-    let a4 = at + 1 + 1 + 1 + 1;
-    four_at(s, at) + 4294967296 * four_at(s, a4)
+    let end = at + 8;
+    eight(&s[at..end])
 }
 
-// The big-endian u64 of the eight bytes from `at` on: two of them stand as the bytes do. It is a load and a byte swap.
+// The number whose bytes are those of `x` the other way round: one byte swap in machine code.
+fn turned(x: u64) -> u64
+    ensures { λ r. ⌜ r ≡ bigField 8 (bytesOf 8 x) 0 ⌝ }
+{
+    let x1 = x / 256;
+    let x2 = x1 / 256;
+    let x3 = x2 / 256;
+    let x4 = x3 / 256;
+    let x5 = x4 / 256;
+    let x6 = x5 / 256;
+    let x7 = x6 / 256;
+    72057594037927936 * (x % 256)
+        + 281474976710656 * (x1 % 256)
+        + 1099511627776 * (x2 % 256)
+        + 4294967296 * (x3 % 256)
+        + 16777216 * (x4 % 256)
+        + 65536 * (x5 % 256)
+        + 256 * (x6 % 256)
+        + x7 % 256
+}
+
+// The big-endian u64 of the eight bytes from `at` on: two of them stand as the bytes do.
 pub fn big_u64_at(s: &[u8], at: usize) -> u64
     requires { ⌜ at + 8 ≤ length (now s) ⌝ }
     ensures { λ r. ⌜ r ≡ bigField 8 (now (s .entry)) at ⌝ }
 {
-    let a4 = at + 1 + 1 + 1 + 1;
-    4294967296 * big_four_at(s, at) + big_four_at(s, a4)
+    turned(u64_at(s, at))
 }
 
 // Puts the four bytes of `v` at `at`.

@@ -1,12 +1,10 @@
 // The byte order of keys, in which a prefix is lower, and where two keys part.
 ghost use mathlib.Core.Path.{_≡_};
+ghost use mathlib.Core.Bool.{cond};
 ghost use mathlib.Core.Logic.{_⊎_};
-ghost use Prim.Native.Nat.{_/_, _≤_};
-ghost use lib.Bits.{bitXor};
-ghost use lib.Count.{leadingZeros};
+ghost use Prim.Native.Nat.{_≤_};
 ghost use lib.ListN.{length};
 ghost use Rattle.field.specs.Order.{orderOf, commonOf, partingOf, isLower};
-ghost use Rattle.field.specs.Rising.{alikeUnlessLower};
 use super::number::big_u64_at;
 
 pub enum Order {
@@ -42,20 +40,12 @@ fn least(a: usize, b: usize) -> usize
     b
 }
 
-// How many bytes two words have alike, from the highest on.
-fn same_bytes(x: u64, y: u64) -> usize
-    ensures { λ r. ⌜ (r ≡ leadingZeros 64 (bitXor x y) / 8) × (r ≤ 8) ⌝ }
-{
-    (u64::leading_zeros(x ^ y) / 8) as usize
-}
-
-// The length of the common beginning of two keys that are alike before byte `from`, byte by byte.
-fn common_bytes(a: &[u8], b: &[u8], from: usize) -> usize
-    requires { ⌜ from ≤ commonOf (now a) (now b) ⌝ }
-    ensures { λ r. ⌜ (r ≡ commonOf (now (a .entry)) (now (b .entry))) × (r ≤ length (now (a .entry))) ⌝ }
+// The length of the common beginning of two keys, byte by byte.
+fn common_of(a: &[u8], b: &[u8]) -> usize
+    ensures { λ r. ⌜ r ≡ commonOf (now (a .entry)) (now (b .entry)) ⌝ }
 {
     let n = least(a.len(), b.len());
-    let mut i = from;
+    let mut i = 0;
     while i < n {
         if a[i] != b[i] {
             return i;
@@ -93,11 +83,23 @@ fn order_at(a: &[u8], b: &[u8], at: usize) -> Order
     Order::Equal
 }
 
-// The order of two keys: eight bytes at a time while both have as many, and then byte by byte.
+// How two keys stand to each other, in one pass: where they part, the byte there decides.
+pub fn compare(a: &[u8], b: &[u8]) -> Parting
+    ensures { λ r. ⌜ r ≡ partingOf (now (a .entry)) (now (b .entry)) ⌝ }
+{
+    let common = common_of(a, b);
+    let order = order_at(a, b, common);
+    Parting { order, common }
+}
+
+// The order of two keys, by words: after the last whole word of the shorter, one more word that ends with it, of which the first bytes are alike.
 pub fn order_of(a: &[u8], b: &[u8]) -> Order
     ensures { λ r. ⌜ r ≡ orderOf (now (a .entry)) (now (b .entry)) ⌝ }
 {
     let n = least(a.len(), b.len());
+    if n < 8 {
+        return order_at(a, b, common_of(a, b));
+    }
     let mut i = 0;
     while 8 <= n - i {
         let x = big_u64_at(a, i);
@@ -110,56 +112,85 @@ pub fn order_of(a: &[u8], b: &[u8]) -> Order
         }
         i += 8;
     }
-    order_at(a, b, common_bytes(a, b, i))
+    let x = big_u64_at(a, n - 8);
+    let y = big_u64_at(b, n - 8);
+    if x < y {
+        return Order::Lower;
+    }
+    if y < x {
+        return Order::Higher;
+    }
+    order_at(a, b, n)
 }
 
-// The length of the common beginning of two keys: by words, and then byte by byte.
-fn common_of(a: &[u8], b: &[u8]) -> usize
-    ensures { λ r. ⌜ r ≡ commonOf (now (a .entry)) (now (b .entry)) ⌝ }
+// Whether the first of two keys is lower, by words as `order_of`.
+pub fn is_below(a: &[u8], b: &[u8]) -> bool
+    ensures { λ r. ⌜ r ≡ isLower (orderOf (now (a .entry)) (now (b .entry))) ⌝ }
 {
     let n = least(a.len(), b.len());
+    if n < 8 {
+        return lower_at(a, b, common_of(a, b));
+    }
     let mut i = 0;
     while 8 <= n - i {
         let x = big_u64_at(a, i);
         let y = big_u64_at(b, i);
         if x != y {
-            return i + same_bytes(x, y);
+            return x < y;
         }
         i += 8;
     }
-    common_bytes(a, b, i)
+    let last = n - 8;
+    let x = big_u64_at(a, last);
+    let y = big_u64_at(b, last);
+    if x != y {
+        return x < y;
+    }
+    a.len() < b.len()
 }
 
-// How two keys stand to each other, in one pass: where they part, the byte there decides.
-pub fn compare(a: &[u8], b: &[u8]) -> Parting
-    ensures { λ r. ⌜ r ≡ partingOf (now (a .entry)) (now (b .entry)) ⌝ }
+// One of two numbers, by a test: a selection and no branch in machine code.
+fn pick(test: bool, x: u64, y: u64) -> u64
+    ensures { λ r. ⌜ r ≡ cond test x y ⌝ }
 {
-    let common = common_of(a, b);
-    let order = order_at(a, b, common);
-    Parting { order, common }
+    if test { x } else { y }
 }
 
-// Of a key and the one that should be above it, in one pass: 0 where it is lower, so that no leading zeros are counted there, and else one more than the
-// length of their common beginning.
-pub fn alike_unless_lower(a: &[u8], b: &[u8]) -> usize
-    ensures { λ r. ⌜ r ≡ alikeUnlessLower (now (a .entry)) (now (b .entry)) ⌝ }
+// Whether the first of two keys is lower, the shorter of `n` bytes, 16 to 32: by the first words, or else by three more with no branch among them.
+fn is_below_by_four(a: &[u8], b: &[u8], n: usize) -> bool
+    requires { ⌜ (16 ≤ n) × (n ≤ 32) × (n ≤ length (now a)) × (n ≤ length (now b)) × ((n ≡ length (now a)) ⊎ (n ≡ length (now b))) ⌝ }
+    ensures { λ r. ⌜ r ≡ isLower (orderOf (now (a .entry)) (now (b .entry))) ⌝ }
+{
+    let x0 = big_u64_at(a, 0);
+    let y0 = big_u64_at(b, 0);
+    if x0 != y0 {
+        return x0 < y0;
+    }
+    let fourth = n - 8;
+    let third = least(fourth, 16);
+    let x1 = big_u64_at(a, 8);
+    let y1 = big_u64_at(b, 8);
+    let x2 = big_u64_at(a, third);
+    let y2 = big_u64_at(b, third);
+    let x3 = big_u64_at(a, fourth);
+    let y3 = big_u64_at(b, fourth);
+    let x = pick(x1 != y1, x1, pick(x2 != y2, x2, x3));
+    let y = pick(x1 != y1, y1, pick(x2 != y2, y2, y3));
+    if x != y {
+        return x < y;
+    }
+    a.len() < b.len()
+}
+
+// Whether the first of two keys is lower, for keys of which it cannot be foreseen in which word they part, as neighbours in a leaf.
+pub fn is_below_at_once(a: &[u8], b: &[u8]) -> bool
+    ensures { λ r. ⌜ r ≡ isLower (orderOf (now (a .entry)) (now (b .entry))) ⌝ }
 {
     let n = least(a.len(), b.len());
-    let mut i = 0;
-    while 8 <= n - i {
-        let x = big_u64_at(a, i);
-        let y = big_u64_at(b, i);
-        if x < y {
-            return 0;
+    if 16 <= n {
+        if n <= 32 {
+            return is_below_by_four(a, b, n);
         }
-        if y < x {
-            return i + same_bytes(x, y) + 1;
-        }
-        i += 8;
     }
-    let common = common_bytes(a, b, i);
-    if lower_at(a, b, common) {
-        return 0;
-    }
-    common + 1
+    is_below(a, b)
 }

@@ -8,16 +8,15 @@ use mathlib.Core.Option.{Option}
 use Prim.Native.Nat.{ℕ, _-_, _≤_, _<_}
 use native.Mathlib.Nat.{eq-or-lt-of-le}
 use native.Mathlib.Omega.{arith}
-use borrow.Author.Tests.{not-false}
 use Rattle.field.specs.declared.order.Parting.{Parting}
-use Rattle.field.specs.Order.{partingOf, isLower}
+use Rattle.field.specs.Order.{orderOf, partingOf, isLower}
 use Rattle.page.specs.declared.rules.Verdict.the-variants.{Sound}
 use Rattle.page.specs.Layout.{countOf, keyOf}
 use Rattle.page.specs.PageRules.{firstBad, SoundBlock}
 use Rattle.page.proofs.RuleLaws.{none-bad}
 use Rattle.page.proofs.EntryLaws.{rising-far}
 use Rattle.walk.specs.Tree.{Key, lower, under, inRange, commonCrossed}
-use Rattle.walk.proofs.KeyLaws.{order-lower, lower-one-way, lower-not, weak-chain, under-chain, range-low, range-high, range-both}
+use Rattle.walk.proofs.KeyLaws.{order-lower, lower-one-way, lower-not, weak-chain, under-chain, range-both}
 use Rattle.judge.specs.declared.range.Ranged.the-variants.{In, Out}
 use Rattle.judge.specs.Walk.{rangedOf, keyOut, commonOut}
 
@@ -26,6 +25,10 @@ use Rattle.judge.specs.Walk.{rangedOf, keyOut, commonOut}
 pub lower-told : (k end : Key) (p : Parting) (t : Bool) → p ≡ partingOf k end → t ≡ isLower (p .order) → lower k end ≡ t
 unfolding lower
 lower-told k end p t e f = sym (f ∙ ap (λ (q : Parting). isLower (q .order)) e)
+
+pub lower-is : (k end : Key) (t : Bool) → t ≡ isLower (orderOf k end) → lower k end ≡ t
+unfolding lower
+lower-is k end t e = sym e
 
 -- a key that was found in its range, or outside it
 module _ (low : Key) (high : Option Key) (k : Key) where
@@ -52,24 +55,20 @@ module _ (isLeaf emptyOk : Bool) (b : List ℕ) (sound : SoundBlock isLeaf empty
       (λ h. lower-one-way _ _ (order-lower _ _ (rising-far isLeaf emptyOk b sound i j h m)))
       (eq-or-lt-of-le l)
 
-  -- where the first and the last are in range, all are
+  -- where the first is not below the lower end and the last is below the upper, all are in range
   pub ends-against-range : (low : Key) (high : Option Key) → 0 < countOf b
-      → keyOut isLeaf b low high 0 ≡ false → keyOut isLeaf b low high (countOf b - 1) ≡ false
+      → lower (keyOf isLeaf b 0) low ≡ false → under (keyOf isLeaf b (countOf b - 1)) high ≡ true
       → firstBad (keyOut isLeaf b low high) (commonOut isLeaf b low high) 7 (countOf b) 0 ≡ Sound
   ends-against-range low high filled first last =
       none-bad (keyOut isLeaf b low high) (commonOut isLeaf b low high) 7 (countOf b) 0 (λ i l m. ap not (inside i (omega arith)))
     where
       up : (i : ℕ) → i < countOf b → under (keyOf isLeaf b i) high ≡ true
       up i m =
-          let u = range-high low high (keyOf isLeaf b (countOf b - 1)) (not-false _ last) in
           let l : i ≤ countOf b - 1 = omega arith in
           ⊎-elim
-          (λ e. rw e u)
-          (λ h. under-chain (keyOf isLeaf b i) (keyOf isLeaf b (countOf b - 1)) high (order-lower _ _ (rising-far isLeaf emptyOk b sound i (countOf b - 1) h (omega arith))) u)
+          (λ e. rw e last)
+          (λ h. under-chain (keyOf isLeaf b i) (keyOf isLeaf b (countOf b - 1)) high (order-lower _ _ (rising-far isLeaf emptyOk b sound i (countOf b - 1) h (omega arith))) last)
           (eq-or-lt-of-le l)
 
       inside : (i : ℕ) → i < countOf b → inRange low high (keyOf isLeaf b i) ≡ true
-      inside i m =
-          range-both low high (keyOf isLeaf b i)
-          (weak-chain low (keyOf isLeaf b 0) (keyOf isLeaf b i) (range-low low high (keyOf isLeaf b 0) (not-false _ first)) (not-before 0 i (omega arith) m))
-          (up i m)
+      inside i m = range-both low high (keyOf isLeaf b i) (weak-chain low (keyOf isLeaf b 0) (keyOf isLeaf b i) first (not-before 0 i (omega arith) m)) (up i m)

@@ -5,10 +5,12 @@ ghost use Prim.Native.Nat.{_*_, _≤_, _<_};
 ghost use lib.ListN.{length, drop};
 ghost use Rattle.page.specs.Layout.{countOf};
 ghost use Rattle.page.specs.PageRules.{andThen, firstBad, headerBad, checkOf, SoundBlock};
+ghost use Rattle.walk.specs.Tree.{under};
 ghost use Rattle.view.specs.Geometry.{SoundSizes};
 ghost use Rattle.view.specs.View.{viewOf};
 ghost use Rattle.judge.specs.Walk.{upperOf, againstUpper, rangedOf, keyOut, commonOut, judgePageOf};
 use field::order::compare;
+use field::order::is_below;
 use field::order::is_lower;
 use page::Verdict;
 use page::layout::count;
@@ -77,7 +79,17 @@ fn first_out(b: &[u8], leaf: bool, n: usize, low: &[u8], high: &[u8], bounded: b
     Verdict::Sound
 }
 
-// Rule 8: the keys rise, so where the first and the last are in range, all are.
+// Whether a key is below the upper end of its range, where there is one.
+fn is_under(k: &[u8], high: &[u8], bounded: bool) -> bool
+    ensures { λ r. ⌜ r ≡ under (now (k .entry)) (upperOf bounded (now (high .entry))) ⌝ }
+{
+    if !bounded {
+        return true;
+    }
+    is_below(k, high)
+}
+
+// Rule 8: the keys rise, so where the first is not below the lower end and the last is below the upper, all are in range.
 fn check_range(b: &[u8], leaf: bool, n: usize, low: &[u8], high: &[u8], bounded: bool) -> Verdict
     requires { ⌜ (n ≡ countOf (now b)) × SoundBlock leaf true (now b) ⌝ }
     ensures { λ r. ⌜ r ≡ firstBad (keyOut leaf (now (b .entry)) (now (low .entry)) (upperOf bounded (now (high .entry))))
@@ -86,13 +98,13 @@ fn check_range(b: &[u8], leaf: bool, n: usize, low: &[u8], high: &[u8], bounded:
     if n == 0 {
         return Verdict::Sound;
     }
-    match against_range(key(b, leaf, 0), low, high, bounded) {
-        Ranged::Out(common) => Verdict::Breach(7, 0, common),
-        Ranged::In => match against_range(key(b, leaf, n - 1), low, high, bounded) {
-            Ranged::Out(_) => first_out(b, leaf, n, low, high, bounded),
-            Ranged::In => Verdict::Sound,
-        },
+    if is_below(key(b, leaf, 0), low) {
+        return first_out(b, leaf, n, low, high, bounded);
     }
+    if is_under(key(b, leaf, n - 1), high, bounded) {
+        return Verdict::Sound;
+    }
+    first_out(b, leaf, n, low, high, bounded)
 }
 
 // Rules 5 to 8 of a block.

@@ -1,14 +1,13 @@
 -- Where elements and keys stand, for either kind of block, and that a block has the header of the bytes that it is the front of.
 -- Assumes nothing.
 use mathlib.Core.Path.{_≡_, refl}
-use mathlib.Core.Bool.{Bool, true, false, cond}
+use mathlib.Core.Bool.{Bool, true, false}
 use mathlib.Core.List.{List}
 use Prim.Native.Nat.{ℕ, _+_, _-_, _≤_, _<_}
 use native.Mathlib.Nat.{add-sub-cancel-left}
 use native.Mathlib.Omega.{arith}
 use lib.ListN.{length, take, drop}
 use lib.Seq.{getD-take}
-use Rattle.field.specs.Field.{field}
 use Rattle.field.proofs.FieldLaws.{field-take}
 use Rattle.page.specs.Layout.{idOf, typeOf, countOf, overflowOf, elementSize, elementAt, keySize, keyAt, valueAt, tableEnd, keyOf}
 
@@ -27,25 +26,6 @@ pub key-part : (leaf : Bool) (b : List ℕ) (i start size : ℕ) → start ≡ k
 unfolding keyOf
 key-part leaf b i start size p q = rw (add-sub-cancel-left start size, p, q)
 
--- ---- the key of element i, which stands at `at`, with its pos `pos` further on
-pub record KeyPlace (leaf : Bool) (b : List ℕ) (i at pos : ℕ) : Type 0 where
-  pub room : at + 24 ≤ length b
-  pub least : 8 ≤ pos
-  pub most : pos ≤ 16
-  pub start : at + field 8 b (at + pos) ≡ keyAt leaf b i
-  pub size : field 8 b (at + (24 - pos)) ≡ keySize leaf b i
-
-pub key-place : (leaf : Bool) (b : List ℕ) (i at pos : ℕ) → at ≡ elementAt leaf i → pos ≡ cond leaf 8 16 → i < countOf b → tableEnd leaf b ≤ length b → KeyPlace leaf b i at pos
-key-place false b i at pos p q l h = record { room = omega arith; least = omega arith; most = omega arith; start = rw (p, q); size = rw (p, q) }
-key-place true b i at pos p q l h = record { room = omega arith; least = omega arith; most = omega arith; start = rw (p, q); size = rw (p, q) }
-
-module _ (leaf : Bool) (b : List ℕ) (i at pos : ℕ) (k : KeyPlace leaf b i at pos) (within : valueAt leaf b i ≤ length b) where
-  pub start-room : (at + 24 ≤ length b) × (pos ≤ 16) × (at + field 8 b (at + pos) ≤ length b)
-  start-room = (k .room, k .most, omega (arith, k .start))
-
-  pub end-room : (start : ℕ) → start ≡ at + field 8 b (at + pos) → (at + 24 ≤ length b) × (8 ≤ pos) × (pos ≤ 16) × (start + field 8 b (at + (24 - pos)) ≤ length b)
-  end-room start e = (k .room, k .least, k .most, omega (arith, k .start, k .size))
-
 -- the part of a block from a key's start to its end
 pub key-span : (leaf : Bool) (b : List ℕ) (i start end : ℕ) → start ≡ keyAt leaf b i → end ≡ valueAt leaf b i → take (end - start) (drop start b) ≡ keyOf leaf b i
 unfolding keyOf
@@ -54,10 +34,6 @@ key-span leaf b i start end p q = rw (p, q, add-sub-cancel-left (keyAt leaf b i)
 pub element-first : (leaf : Bool) → 32 ≡ elementAt leaf 0
 element-first false = refl
 element-first true = refl
-
-pub element-next : (leaf : Bool) (i : ℕ) → 1 ≤ i → elementAt leaf (i - 1) + elementSize leaf ≡ elementAt leaf i
-element-next false i l = omega arith
-element-next true i l = omega arith
 
 -- ---- the header stands in the first 32 bytes
 pub record SameHeader (b s : List ℕ) : Type 0 where

@@ -3,6 +3,7 @@ pub mod TestLaws
 pub mod LayoutLaws
 pub mod BlockLaws
 pub mod RuleLaws
+mod PassLaws
 pub mod FirstBreach
 pub mod LentLaws
 pub mod EntryLaws

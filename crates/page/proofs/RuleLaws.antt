@@ -13,13 +13,13 @@ use lib.ListN.{length}
 use borrow.Author.Tests.{le-ltb, ltb-false, lt-leb, leb-false, eq-eqb, ne-eqb, eqb-true, not-false}
 use Rattle.field.specs.declared.order.Order.{Order}
 use Rattle.field.specs.declared.order.Order.the-variants.{Lower}
-use Rattle.field.specs.Order.{orderOf, isLower}
-use Rattle.field.specs.Rising.{alikeUnlessLower}
+use Rattle.field.specs.declared.order.Parting.{Parting}
+use Rattle.field.specs.Order.{orderOf, partingOf, isLower}
 use Rattle.field.proofs.OrderLaws.{is-lower}
 use Rattle.page.specs.declared.rules.Verdict.{Verdict}
 use Rattle.page.specs.declared.rules.Verdict.the-variants.{Sound, Breach}
 use Rattle.page.specs.Layout.{idOf, overflowOf, isBranch, countOf, elementSize, elementAt, posOf, keySize, valueSize, tableEnd, isLeaf, keyAt, valueAt, valueEnd, keyOf}
-use Rattle.page.specs.PageRules.{headerBad, andThen, breachIf, noCommon, firstBad, outside, tableBad, elementBad, keyBad, commonBefore, kindBad, kindBadAt, checkOf, SoundBlock}
+use Rattle.page.specs.PageRules.{headerBad, andThen, breachIf, noCommon, firstBad, outside, tableBad, elementBad, keyBad, commonBefore, kindBad, kindBadAt, elementsOf, checkOf, SoundBlock}
 use Rattle.page.proofs.TestLaws.{ltb-same, and-both, or-neither}
 
 -- ---- the first bad element, from i on and below n
@@ -79,26 +79,14 @@ pub element-test : (leaf : Bool) (b : List ℕ) (i end pos key value : ℕ) (out
 unfolding elementBad
 element-test leaf b i end pos key value out kind p q r s o k = rw (o, k, p, q, r, s)
 
--- rule 7: how far the key before an element and its own are alike
-module _ (leaf : Bool) (b : List ℕ) (i : ℕ) where
-  abbrev pub alikeBefore : ℕ
-  alikeBefore = alikeUnlessLower (keyOf leaf b (i - 1)) (keyOf leaf b i)
-
-  pub rising-key : alikeBefore ≤ 0 → keyBad leaf b i ≡ false
+-- rule 7, by what a comparison of the key before and its own answered
+module _ (leaf : Bool) (b : List ℕ) (i : ℕ) (p : Parting) (e : p ≡ partingOf (keyOf leaf b (i - 1)) (keyOf leaf b i)) where
+  pub key-test : (t : Bool) → t ≡ isLower (p .order) → keyBad leaf b i ≡ not t
   unfolding keyBad
-  rising-key h = go (isLower (orderOf (keyOf leaf b (i - 1)) (keyOf leaf b i))) refl
-    where
-      go : (t : Bool) → isLower (orderOf (keyOf leaf b (i - 1)) (keyOf leaf b i)) ≡ t → keyBad leaf b i ≡ false
-      go true e = ap not e
-      go false e = absurd (let f : suc (commonBefore leaf b i) ≤ 0 = rw e at h in omega arith)
+  key-test t h = ap not (sym (h ∙ ap (λ (q : Parting). isLower (q .order)) e))
 
-  pub falling-key : 0 < alikeBefore → (keyBad leaf b i ≡ true) × (alikeBefore - 1 ≡ commonBefore leaf b i)
-  unfolding keyBad
-  falling-key h = go (isLower (orderOf (keyOf leaf b (i - 1)) (keyOf leaf b i))) refl
-    where
-      go : (t : Bool) → isLower (orderOf (keyOf leaf b (i - 1)) (keyOf leaf b i)) ≡ t → (keyBad leaf b i ≡ true) × (alikeBefore - 1 ≡ commonBefore leaf b i)
-      go true e = absurd (let f : 0 < 0 = rw e at h in omega arith)
-      go false e = (ap not e, rw e (omega arith))
+  pub key-common : p .common ≡ commonBefore leaf b i
+  key-common = ap (λ (q : Parting). q .common) e
 
 -- ---- rule 4 in words
 module _ (N q : ℕ) (s : List ℕ) where
@@ -213,6 +201,10 @@ module _ (leaf emptyOk : Bool) (b : List ℕ) where
   pub check-table : tableBad leaf emptyOk b ≡ true → checkOf leaf emptyOk b ≡ Breach 4 0 0
   unfolding checkOf
   check-table e = rw e
+
+  pub check-elements : tableBad leaf emptyOk b ≡ false → checkOf leaf emptyOk b ≡ elementsOf leaf b
+  unfolding checkOf
+  check-elements t = rw t
 
   pub check-stops : tableBad leaf emptyOk b ≡ false → (r i c : ℕ) → firstBad (elementBad leaf b) noCommon 5 (countOf b) 0 ≡ Breach r i c → checkOf leaf emptyOk b ≡ Breach r i c
   unfolding checkOf

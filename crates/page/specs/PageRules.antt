@@ -20,6 +20,11 @@ abbrev pub andThen : Verdict → Verdict → Verdict
 andThen Sound v = v
 andThen (Breach number element common) v = Breach number element common
 
+-- whether there is no breach
+abbrev pub isSound : Verdict → Bool
+isSound Sound = true
+isSound (Breach number element common) = false
+
 -- an answer after a check: a breach refuses with its number, element and common beginning, and else the answer stands
 abbrev pub afterCheck : {A : Type 0} → Verdict → (ℕ → ℕ → ℕ → A) → A → A
 afterCheck Sound refused answer = answer
@@ -74,11 +79,13 @@ keyBad leaf b i = not (isLower (orderOf (keyOf leaf b (i - 1)) (keyOf leaf b i))
 abbrev pub commonBefore : Bool → List ℕ → ℕ → ℕ
 commonBefore leaf b i = commonOf (keyOf leaf b (i - 1)) (keyOf leaf b i)
 
+-- ---- rules 6 and 7 of the elements
+abbrev pub elementsOf : Bool → List ℕ → Verdict
+elementsOf leaf b = andThen (firstBad (elementBad leaf b) noCommon 5 (countOf b) 0) (firstBad (keyBad leaf b) (commonBefore leaf b) 6 (countOf b - 1) 1)
+
 -- ---- rules 5 to 7 of a block
 unfoldable pub checkOf : Bool → Bool → List ℕ → Verdict
-checkOf leaf emptyOk b =
-    breachIf (tableBad leaf emptyOk b) 4
-    (andThen (firstBad (elementBad leaf b) noCommon 5 (countOf b) 0) (firstBad (keyBad leaf b) (commonBefore leaf b) 6 (countOf b - 1) 1))
+checkOf leaf emptyOk b = breachIf (tableBad leaf emptyOk b) 4 (elementsOf leaf b)
 
 -- a block that keeps rules 5 to 7
 pub record SoundBlock (leaf emptyOk : Bool) (b : List ℕ) : Type 0 where

@@ -1,5 +1,7 @@
 // Pages: where the numbers of a block stand, the rules that a sound block keeps, and the search in one.
+mod branch_pass;
 pub mod layout;
+mod leaf_pass;
 pub mod rules;
 pub mod search;
 

@@ -1,13 +1,12 @@
 // The rules that a sound block keeps, each a function: 01's rules 4 to 7.
 ghost use mathlib.Core.Path.{_≡_};
-ghost use mathlib.Core.Bool.{true, false, not, cond, _||_};
+ghost use mathlib.Core.Bool.{true, false, not, _||_};
 ghost use Prim.Native.Nat.{ℕ, _+_, _-_, _^_, _<_, _≤_};
-ghost use lib.ListN.{length, take, drop};
-ghost use Rattle.field.specs.Field.{field};
-ghost use Rattle.field.specs.Rising.{alikeUnlessLower};
-ghost use Rattle.page.specs.Layout.{countOf, isBranch, isLeaf, elementSize, elementAt, tableEnd, valueAt};
-ghost use Rattle.page.specs.PageRules.{noCommon, firstBad, headerBad, tableBad, elementBad, keyBad, commonBefore, kindBad, checkOf, lengthBad, lentHeaderBad, lentCheckOf};
+ghost use lib.ListN.{length};
+ghost use Rattle.page.specs.Layout.{countOf, isBranch, isLeaf, elementAt, tableEnd, valueAt};
+ghost use Rattle.page.specs.PageRules.{noCommon, firstBad, headerBad, tableBad, elementBad, keyBad, commonBefore, kindBad, isSound, elementsOf, checkOf, lengthBad, lentHeaderBad, lentCheckOf};
 ghost use Rattle.page.specs.PageRules.{outside as outsideOf};
+use super::branch_pass::branch_keeps;
 use super::layout::BRANCH_SIZE;
 use super::layout::HEADER_SIZE;
 use super::layout::LEAF_SIZE;
@@ -16,10 +15,13 @@ use super::layout::TYPE_LEAF;
 use super::layout::count;
 use super::layout::id;
 use super::layout::is_leaf;
+use super::layout::key;
 use super::layout::overflow;
 use super::layout::page_type;
+use super::leaf_pass::leaf_keeps;
 use field::number::u64_at;
-use field::order::alike_unless_lower;
+use field::order::compare;
+use field::order::is_lower;
 use field::sizes::size_allowed;
 
 // What a check answers: a breach has 01's number, the element's index and the length of the common beginning, 0 where there is none.
@@ -83,7 +85,7 @@ pub fn kind_bad(kind: u8, size: usize) -> bool
 }
 
 // Whether a key and a value of these sizes, `pos` after `at`, start before `from` or end past `to`.
-fn outside(from: usize, to: usize, at: usize, pos: usize, key: usize, value: usize) -> bool
+pub fn outside(from: usize, to: usize, at: usize, pos: usize, key: usize, value: usize) -> bool
     requires { ⌜ (at ≤ from) × (from ≤ to) ⌝ }
     ensures { λ r. ⌜ r ≡ outsideOf from to (at + pos) (at + pos + key + value) ⌝ }
 {
@@ -164,75 +166,47 @@ fn check_elements(b: &[u8], leaf: bool, n: usize) -> Verdict
     Verdict::Sound
 }
 
-// How far on from an element's start the pos of its key stands; the key's size stands at 24 less that.
-fn pos_place(leaf: bool) -> usize
-    ensures { λ r. ⌜ r ≡ cond leaf 8 16 ⌝ }
-{
-    if leaf { 8 } else { 16 }
-}
-
-// The size of an element.
-fn element_size(leaf: bool) -> usize
-    ensures { λ r. ⌜ r ≡ elementSize leaf ⌝ }
-{
-    if leaf { LEAF_SIZE } else { BRANCH_SIZE }
-}
-
-// Where the key of the element at `at` starts.
-fn key_start(b: &[u8], at: usize, pos: usize) -> usize
-    requires { ⌜ (at + 24 ≤ length (now b)) × (pos ≤ 16) × (at + field 8 (now b) (at + pos) ≤ length (now b)) ⌝ }
-    ensures { λ r. ⌜ r ≡ at + field 8 (now (b .entry)) (at + pos) ⌝ }
-{
-    at + u64_at(b, at + pos) as usize
-}
-
-// Where the key of the element at `at` ends, which starts at `start`.
-fn key_end(b: &[u8], at: usize, pos: usize, start: usize) -> usize
-    requires { ⌜ (at + 24 ≤ length (now b)) × (8 ≤ pos) × (pos ≤ 16) × (start + field 8 (now b) (at + (24 - pos)) ≤ length (now b)) ⌝ }
-    ensures { λ r. ⌜ r ≡ start + field 8 (now (b .entry)) (at + (24 - pos)) ⌝ }
-{
-    start + u64_at(b, at + (24 - pos)) as usize
-}
-
-// Of the key from `start` to `end` and the next, from `from` to `to`: 0 where they rise, and else one more than the length of their common beginning.
-fn alike(b: &[u8], start: usize, end: usize, from: usize, to: usize) -> usize
-    requires { ⌜ (start ≤ end) × (end ≤ length (now b)) × (from ≤ to) × (to ≤ length (now b)) ⌝ }
-    ensures { λ r. ⌜ r ≡ alikeUnlessLower (take (end - start) (drop start (now (b .entry)))) (take (to - from) (drop from (now (b .entry)))) ⌝ }
-{
-    alike_unless_lower(&b[start..end], &b[from..to])
-}
-
 // Rule 7: the first element whose key is not above the one before it, and how far the two are alike.
 fn check_keys(b: &[u8], leaf: bool, n: usize) -> Verdict
     requires { ⌜ (n ≡ countOf (now b)) × (tableEnd leaf (now b) ≤ length (now b))
         × ((i : ℕ) → i < n → valueAt leaf (now b) i ≤ length (now b)) ⌝ }
     ensures { λ r. ⌜ r ≡ firstBad (keyBad leaf (now (b .entry))) (commonBefore leaf (now (b .entry))) 6 (n - 1) 1 ⌝ }
 {
-    if n < 2 {
-        return Verdict::Sound;
-    }
-    let stride = element_size(leaf);
-    let pos = pos_place(leaf);
-    let mut at = HEADER_SIZE;
-    let mut start = key_start(b, at, pos);
-    let mut end = key_end(b, at, pos, start);
     let mut i = 1;
     while i < n {
-        at += stride;
-        let from = key_start(b, at, pos);
-        let to = key_end(b, at, pos, from);
-        let more = alike(b, start, end, from, to);
-        if 0 < more {
-            return Verdict::Breach(6, i, more - 1);
+        let parting = compare(key(b, leaf, i - 1), key(b, leaf, i));
+        let order = parting.order;
+        if !is_lower(order) {
+            return Verdict::Breach(6, i, parting.common);
         }
-        start = from;
-        end = to;
         i += 1;
     }
     Verdict::Sound
 }
 
-// Rules 5 to 7 of a block: the first breach. `empty` tells whether a count of 0 is allowed.
+// Rules 6 and 7, one after the other: the first breach.
+fn check_each(b: &[u8], leaf: bool, n: usize) -> Verdict
+    requires { ⌜ (n ≡ countOf (now b)) × (tableEnd leaf (now b) ≤ length (now b)) ⌝ }
+    ensures { λ r. ⌜ r ≡ elementsOf leaf (now (b .entry)) ⌝ }
+{
+    match check_elements(b, leaf, n) {
+        Verdict::Breach(number, i, common) => Verdict::Breach(number, i, common),
+        Verdict::Sound => check_keys(b, leaf, n),
+    }
+}
+
+// Whether the elements keep rules 6 and 7, so that `check_each` would answer Sound.
+fn keeps(b: &[u8], leaf: bool, n: usize) -> bool
+    requires { ⌜ (n ≡ countOf (now b)) × (tableEnd leaf (now b) ≤ length (now b)) ⌝ }
+    ensures { λ r. ⌜ r ≡ isSound (elementsOf leaf (now (b .entry))) ⌝ }
+{
+    if leaf {
+        return leaf_keeps(b, n);
+    }
+    branch_keeps(b, n)
+}
+
+// Rules 5 to 7 of a block: the first breach, which is looked for only where there is one. `empty` tells whether a count of 0 is allowed.
 pub fn check(b: &[u8], leaf: bool, empty: bool) -> Verdict
     requires { ⌜ 32 ≤ length (now b) ⌝ }
     ensures { λ r. ⌜ r ≡ checkOf leaf empty (now (b .entry)) ⌝ }
@@ -241,10 +215,10 @@ pub fn check(b: &[u8], leaf: bool, empty: bool) -> Verdict
         return Verdict::Breach(4, 0, 0);
     }
     let n = count(b);
-    match check_elements(b, leaf, n) {
-        Verdict::Breach(number, i, common) => Verdict::Breach(number, i, common),
-        Verdict::Sound => check_keys(b, leaf, n),
+    if keeps(b, leaf, n) {
+        return Verdict::Sound;
     }
+    check_each(b, leaf, n)
 }
 
 // Whether a lent block's length breaks geometry.

@@ -1,12 +1,13 @@
--- `page::rules::check` meets its contract: rule by rule, a later one only where the earlier ones found nothing. Assumes nothing.
-use mathlib.Core.Path.{_≡_, sym, ap, _∙_}
+-- `page::rules::check` meets its contract: rule 5, then the one pass, and where that meets a breach, the two. Assumes nothing.
+use mathlib.Core.Path.{_≡_, sym, _∙_}
+use Prim.Native.Nat.{_≤_}
 use borrow.Author.Needs.{needs}
-use Prim.Native.Nat.{ℕ, _-_}
 use denote.Ref.{now}
-use native.Mathlib.Omega.{arith}
-use Rattle.page.specs.Layout.{countOf}
-use Rattle.page.specs.PageRules.{noCommon, firstBad, elementBad, keyBad, commonBefore}
-use Rattle.page.proofs.RuleLaws.{table-good, check-table, check-stops, check-goes-on, within-all}
+use lib.ListN.{length}
+use Rattle.page.specs.Layout.{tableEnd}
+use Rattle.page.specs.PageRules.{elementsOf, checkOf}
+use Rattle.page.proofs.RuleLaws.{table-good, check-table, check-elements}
+use Rattle.page.proofs.PassLaws.{is-sound}
 use Rattle.page.proofs.rules.check.Statement.{statement}
 use Rattle.page.proofs.rules.check.Tie as tie
 
@@ -15,51 +16,31 @@ returns c =
     let a = c .before .before .before .args in
     sym (check-table (a .leaf) (a .empty) (now (a .b)) (sym (c .before .table-bad .ensures) ∙ c .if1 .taken))
 
-check-elements-requires : tie.Need-check-elements-requires
-check-elements-requires c κs =
-    let a = c .before .before .before .before .args in
-    (c .count .ensures, table-good (a .leaf) (a .empty) (now (a .b)) (sym (c .before .before .table-bad .ensures) ∙ c .before .if1 .left) .1)
+-- the table lies in the block
+fits : (c : tie.Else1) → let a = c .before .before .before .args in tableEnd (a .leaf) (now (a .b)) ≤ length (now (a .b))
+fits c = let a = c .before .before .before .args in table-good (a .leaf) (a .empty) (now (a .b)) (sym (c .before .table-bad .ensures) ∙ c .if1 .left) .1
 
--- rule 6 was tried over all elements
-tried : (c : tie.After-check-elements)
-    → let a = c .before .before .before .before .before .args in c .check-elements .result ≡ firstBad (elementBad (a .leaf) (now (a .b))) noCommon 5 (countOf (now (a .b))) 0
-tried c =
-    let a = c .before .before .before .before .before .args in
-    c .check-elements .ensures ∙ ap (λ (n : ℕ). firstBad (elementBad (a .leaf) (now (a .b))) noCommon 5 n 0) (c .before .count .ensures)
+-- what rules 6 and 7 find is the answer
+goes-on : (c : tie.Else1) → let a = c .before .before .before .args in checkOf (a .leaf) (a .empty) (now (a .b)) ≡ elementsOf (a .leaf) (now (a .b))
+goes-on c = let a = c .before .before .before .args in check-elements (a .leaf) (a .empty) (now (a .b)) (sym (c .before .table-bad .ensures) ∙ c .if1 .left)
 
-check-keys-requires : tie.Need-check-keys-requires
-check-keys-requires c κs =
-    let s = c .before .before .before .before .before .before .before in
-    let b = now (s .args .b) in
-    let e = c .before .before .before .count .ensures in (
-      e,
-      table-good (s .args .leaf) (s .args .empty) b (sym (c .before .before .before .before .before .table-bad .ensures) ∙ c .before .before .before .before .if1 .left) .1,
-      λ i l. within-all (s .args .leaf) b (sym (tried (c .before .before)) ∙ c .enum-told .given .1) i (omega arith),
-    )
+keeps-requires : tie.Need-keeps-requires
+keeps-requires c κs = (c .count .ensures, fits (c .before))
 
 returns-2 : tie.Need-returns-2
-returns-2 c =
-    let k = c .before .before .before in
-    let s = k .before .before .before .before .before in
-    sym
-    (check-stops (s .args .leaf) (s .args .empty) (now (s .args .b)) (sym (k .before .before .before .table-bad .ensures) ∙ k .before .before .if1 .left) _ _ _
-    (sym (tried k) ∙ c .before .number .given .1))
+returns-2 c = sym (goes-on (c .before .before .before) ∙ is-sound _ (sym (c .before .keeps .ensures) ∙ c .if2 .taken))
+
+check-each-requires : tie.Need-check-each-requires
+check-each-requires c κs = (c .before .before .count .ensures, fits (c .before .before .before))
 
 returns-3 : tie.Need-returns-3
-returns-3 c =
-    let k = c .before .before .before in
-    let s = k .before .before .before .before .before in
-    c .check-keys .ensures
-    ∙ ap (λ (n : ℕ). firstBad (keyBad (s .args .leaf) (now (s .args .b))) (commonBefore (s .args .leaf) (now (s .args .b))) 6 (n - 1) 1) (k .before .count .ensures)
-    ∙ sym
-    (check-goes-on (s .args .leaf) (s .args .empty) (now (s .args .b)) (sym (k .before .before .before .table-bad .ensures) ∙ k .before .before .if1 .left)
-    (sym (tried k) ∙ c .before .enum-told .given .1))
+returns-3 c = c .check-each .ensures ∙ sym (goes-on (c .before .before .before .before))
 
 pub check-spec : {M : Type 1} → statement M
 check-spec =
     tie.close
     (tie.spec
     (λ c κs. search needs) returns
-    (λ c κs. search needs) check-elements-requires
-    (λ c. search needs) (λ c. search needs)
-    check-keys-requires returns-2 returns-3)
+    (λ c κs. search needs)
+    keeps-requires returns-2
+    check-each-requires returns-3)
