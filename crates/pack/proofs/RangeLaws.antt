@@ -1,22 +1,37 @@
--- Laws of a range of a source block's entries: its parts, the room that each entry has, and a turn and the end of each loop over it.
+-- Laws of a range of a source block's entries: its parts, the room that each entry has, runs of entries that follow one another, and a turn and the end of each loop over it.
 -- Assumes nothing.
 use mathlib.Core.Path.{_≡_, refl, sym, ap, _∙_}
 use mathlib.Core.Bool.{Bool, true}
-use mathlib.Core.List.{List, [], _∷_, _++_}
+use mathlib.Core.List.{List, [], _∷_, _++_, append-nil}
 use Prim.Native.Nat.{ℕ, zero, suc, _+_, _-_, _*_, _≤_, _<_}
 use native.Mathlib.Nat.{add-zero, sub-zero, zero-add, suc-add, mul-suc, add-sub-cancel-left}
 use native.Mathlib.Omega.{arith}
 use lib.ListN.{length, take, drop, length-append, length-drop}
-use lib.Seq.{take-all, take-at, drop-at}
+use lib.Seq.{length-take-le, take-all, take-at, drop-at, take-add, drop-drop}
 use Rattle.field.specs.Run.{putAt}
 use Rattle.field.proofs.RunLaws.{put-nil, put-put}
-use Rattle.page.specs.Layout.{Entry, countOf, elementSize, elementAt, valueSize, valueAt, valueEnd, valueOf, entryOf, entriesFrom, entriesOf}
+use Rattle.page.specs.Layout.{Entry, countOf, elementSize, elementAt, keySize, valueSize, keyAt, valueAt, valueEnd, valueOf, entryOf, entriesFrom, entriesOf}
 use Rattle.page.specs.PageRules.{SoundBlock}
 use Rattle.page.proofs.EntryLaws.{length-from}
-use Rattle.page.proofs.LayoutLaws.{element-room}
+use Rattle.page.proofs.LayoutLaws.{element-room, key-part}
 use Rattle.pack.specs.Pack.{element, body, table, bodies}
 use Rattle.pack.specs.Plan.{range}
-use Rattle.pack.proofs.PackLaws.{length-element}
+use Rattle.pack.proofs.PackLaws.{length-element, bodies-append}
+
+-- two parts of a list, of which the second starts where the first ends, are one
+part-join : (b : List ℕ) (s m e : ℕ) → s ≤ m → m ≤ e → take (m - s) (drop s b) ++ take (e - m) (drop m b) ≡ take (e - s) (drop s b)
+part-join b s m e h k =
+    let p : e - s ≡ m - s + (e - m) = omega arith in
+    let q : s + (m - s) ≡ m = omega arith in
+    rw (p, take-add (m - s) (e - m) (drop s b), drop-drop (m - s) s b, q)
+
+-- a turn of the loop that copies runs: the bytes from start to end are the bodies of the entries from i to j
+pub record BodiesTurn (leaf : Bool) (b o : List ℕ) (i j to w start end : ℕ) : Type 0 where
+  pub within : end ≤ length b
+  pub size : length (take (end - start) (drop start b)) ≡ end - start
+  pub left : length (bodies (range leaf b i to)) ≡ end - start + length (bodies (range leaf b j to))
+  pub put : w + (end - start) ≤ length o
+      → putAt (putAt o w (take (end - start) (drop start b))) (w + (end - start)) (bodies (range leaf b j to)) ≡ putAt o w (bodies (range leaf b i to))
 
 -- ---- the entries that a range has
 module _ (leaf : Bool) (b : List ℕ) where
@@ -34,6 +49,12 @@ module _ (leaf : Bool) (b : List ℕ) where
   from-split (suc j) k i =
       let e : i + suc j ≡ i + 1 + j = omega arith in
       rw (suc-add, e) (ap (λ (l : List Entry). entryOf leaf b i ∷ l) (from-split j k (i + 1)))
+
+  range-split : (i j to : ℕ) → i ≤ j → j ≤ to → range leaf b i to ≡ range leaf b i j ++ range leaf b j to
+  range-split i j to h k =
+      let e : j - i + (to - j) ≡ to - i = omega arith in
+      let f : i + (j - i) ≡ j = omega arith in
+      rw (e, f) at (from-split (j - i) (to - j) i)
 
   -- a range is a part of the entries
   pub range-part : (from to : ℕ) → from ≤ to → to ≤ countOf b → range leaf b from to ≡ take (to - from) (drop from (entriesOf leaf b))
@@ -63,6 +84,23 @@ module _ (leaf : Bool) (b : List ℕ) where
   unfolding valueOf
   value-part i start size p q = rw (add-sub-cancel-left start size, p, q)
 
+  -- ---- a run: entries whose keys and values follow one another are one part of the block
+  body-part : (i : ℕ) → body (entryOf leaf b i) ≡ take (valueEnd leaf b i - keyAt leaf b i) (drop (keyAt leaf b i) b)
+  body-part i =
+      rw (← key-part leaf b i (keyAt leaf b i) (keySize leaf b i) refl refl, ← value-part i (valueAt leaf b i) (valueSize leaf b i) refl refl)
+      (part-join b (keyAt leaf b i) (valueAt leaf b i) (valueEnd leaf b i) (omega arith) (omega arith))
+
+  pub run-one : (i : ℕ) → bodies (range leaf b i (i + 1)) ≡ take (valueEnd leaf b i - keyAt leaf b i) (drop (keyAt leaf b i) b)
+  unfolding bodies
+  run-one i = rw (range-next i (i + 1) (omega arith), range-end (i + 1) (i + 1) (omega arith), append-nil) (body-part i)
+
+  pub run-next : (from i : ℕ) → from ≤ i → keyAt leaf b from ≤ keyAt leaf b i
+      → bodies (range leaf b from i) ≡ take (keyAt leaf b i - keyAt leaf b from) (drop (keyAt leaf b from) b)
+      → bodies (range leaf b from (i + 1)) ≡ take (valueEnd leaf b i - keyAt leaf b from) (drop (keyAt leaf b from) b)
+  run-next from i h k e =
+      rw (range-split from i (i + 1) h (omega arith), bodies-append (range leaf b from i) (range leaf b i (i + 1)), e, run-one i)
+      (part-join b (keyAt leaf b from) (keyAt leaf b i) (valueEnd leaf b i) k (omega arith))
+
   -- ---- a turn of each loop
   module _ (o : List ℕ) (i to w : ℕ) (h : i < to) where
     pub bodies-next : length (bodies (range leaf b i to)) ≡ length (body (entryOf leaf b i)) + length (bodies (range leaf b (i + 1) to))
@@ -79,11 +117,19 @@ module _ (leaf : Bool) (b : List ℕ) where
     unfolding table
     table-turn d k = rw (range-next i to) (put-put o w (w + elementSize leaf) (element leaf (d - w) (entryOf leaf b i)) _ (rw length-element) k)
 
-    pub bodies-turn : w + length (body (entryOf leaf b i)) ≤ length o
-        → putAt (putAt o w (body (entryOf leaf b i))) (w + length (body (entryOf leaf b i))) (bodies (range leaf b (i + 1) to))
-        ≡ putAt o w (bodies (range leaf b i to))
-    unfolding bodies
-    bodies-turn k = rw (range-next i to) (put-put o w _ (body (entryOf leaf b i)) (bodies (range leaf b (i + 1) to)) refl k)
+  pub bodies-turn : (o : List ℕ) (i j to w start end : ℕ) → i ≤ j → j ≤ to → end ≤ length b
+      → bodies (range leaf b i j) ≡ take (end - start) (drop start b) → BodiesTurn leaf b o i j to w start end
+  bodies-turn o i j to w start end h k l e =
+      let run : List ℕ = take (end - start) (drop start b) in
+      let rest : List ℕ = bodies (range leaf b j to) in
+      let n : length run ≡ end - start = length-take-le (end - start) (drop start b) (rw length-drop (omega arith)) in
+      let s : bodies (range leaf b i to) ≡ run ++ rest = rw (range-split i j to, bodies-append (range leaf b i j) (range leaf b j to), e) in
+      record {
+        within = l;
+        size = n;
+        left = rw (s, length-append run rest, n);
+        put = λ m. rw s (put-put o w _ run rest (rw n) m);
+      }
 
   -- a loop's end
   module _ (o : List ℕ) (i to w : ℕ) (h : to ≤ i) where

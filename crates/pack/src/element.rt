@@ -73,6 +73,14 @@ pub fn value(block: &[u8], leaf: bool, i: usize) -> &[u8]
     &block[start..end]
 }
 
+// Where the value of entry `i` ends.
+pub fn body_end(block: &[u8], leaf: bool, i: usize) -> usize
+    requires { ⌜ (elementAt leaf i + elementSize leaf ≤ length (now block)) × (valueEnd leaf (now block) i ≤ length (now block)) ⌝ }
+    ensures { λ r. ⌜ r ≡ valueEnd leaf (now (block .entry)) i ⌝ }
+{
+    key_at(block, leaf, i) + key_size(block, leaf, i) + value_length(block, leaf, i)
+}
+
 // Puts three words at `at`.
 fn put_three(out: &mut [u8], at: usize, a: u64, b: u64, c: u64)
     requires { ⌜ at + 24 ≤ length (now out) ⌝ }

@@ -3,13 +3,14 @@ ghost use mathlib.Core.Path.{_≡_};
 ghost use mathlib.Core.Bool.{true};
 ghost use mathlib.Core.List.{_++_};
 ghost use Prim.Native.Nat.{_+_, _-_, _*_, _<_, _≤_};
-ghost use lib.ListN.{length, drop};
+ghost use lib.ListN.{length, take, drop};
 ghost use Rattle.field.specs.Run.{putAt};
 ghost use Rattle.field.specs.Field.{flagOf};
-ghost use Rattle.page.specs.Layout.{countOf, elementSize, elementAt, entryOf};
+ghost use Rattle.page.specs.Layout.{countOf, elementSize, elementAt, keyAt, valueEnd, entryOf};
 ghost use Rattle.page.specs.PageRules.{SoundBlock};
 ghost use Rattle.pack.specs.Pack.{blockSize, typeNumber, header, element, body, table, bodies, pack};
 ghost use Rattle.pack.specs.Plan.{range, fresh, planned, countIn, Within};
+use super::element::body_end;
 use super::element::element_at;
 use super::element::element_size;
 use super::element::put_body;
@@ -18,10 +19,12 @@ use super::element::put_four;
 use super::element::tag;
 use super::element::value;
 use field::run::clear;
+use field::run::copy;
 use page::layout::HEADER_SIZE;
 use page::layout::TYPE_BRANCH;
 use page::layout::TYPE_LEAF;
 use page::layout::key;
+use page::layout::key_at;
 
 // Which entries a new block has: those of a source block from `first` to `stop`, a new one with `tag` if `some`, and those from `resume` to `last`.
 pub struct Plan {
@@ -74,19 +77,27 @@ fn copy_table(
     e
 }
 
-// Puts the key and the value of the source's entry `i` at `at`, and says where they end.
-fn copy_body(block: &[u8], leaf: bool, i: usize, out: &mut [u8], at: usize) -> usize
+// The end of those of the source's entries from `from` to `to` whose keys and values follow one another.
+fn run_end(block: &[u8], leaf: bool, from: usize, to: usize) -> usize
     requires { ⌜ SoundBlock leaf true (now block) ⌝ }
-    requires { ⌜ (i < countOf (now block)) × (at + length (body (entryOf leaf (now block) i)) ≤ length (now out)) ⌝ }
-    ensures { λ r. ⌜ (r ≡ at + length (body (entryOf leaf (now (block .entry)) i)))
-        × (now (out .exit) ≡ putAt (now (out .entry)) at (body (entryOf leaf (now (block .entry)) i))) ⌝ }
+    requires { ⌜ (from < to) × (to ≤ countOf (now block)) ⌝ }
+    ensures { λ r. ⌜ (from < r) × (r ≤ to) × (keyAt leaf (now (block .entry)) from ≤ valueEnd leaf (now (block .entry)) (r - 1))
+        × (bodies (range leaf (now (block .entry)) from r)
+        ≡ take (valueEnd leaf (now (block .entry)) (r - 1) - keyAt leaf (now (block .entry)) from) (drop (keyAt leaf (now (block .entry)) from) (now (block .entry)))) ⌝ }
 {
-    let k = key(block, leaf, i);
-    let v = value(block, leaf, i);
-    put_body(k, v, out, at)
+    let mut i = from + 1;
+    let mut end = body_end(block, leaf, from);
+    while i < to {
+        if key_at(block, leaf, i) != end {
+            return i;
+        }
+        end = body_end(block, leaf, i);
+        i += 1;
+    }
+    to
 }
 
-// Puts the keys and values of the source's entries from `from` to `to`, and says where they end.
+// Puts the keys and values of the source's entries from `from` to `to`, a run at a time, and says where they end.
 fn copy_bodies(block: &[u8], leaf: bool, from: usize, to: usize, out: &mut [u8], at: usize) -> usize
     requires { ⌜ SoundBlock leaf true (now block) ⌝ }
     requires { ⌜ (from ≤ to) × (to ≤ countOf (now block)) × (at + length (bodies (range leaf (now block) from to)) ≤ length (now out)) ⌝ }
@@ -96,8 +107,12 @@ fn copy_bodies(block: &[u8], leaf: bool, from: usize, to: usize, out: &mut [u8],
     let mut i = from;
     let mut w = at;
     while i < to {
-        w = copy_body(block, leaf, i, out, w);
-        i += 1;
+        let j = run_end(block, leaf, i, to);
+        let start = key_at(block, leaf, i);
+        let end = body_end(block, leaf, j - 1);
+        copy(out, w, &block[start..end]);
+        w += end - start;
+        i = j;
     }
     w
 }
