@@ -1,7 +1,7 @@
 -- Laws of the pieces' blocks: how many pages they take as the code counts them, and the turns of the loops over them.
 -- Assumes nothing.
-use mathlib.Core.Path.{_≡_, refl, sym, ap, _∙_}
-use mathlib.Core.Bool.{Bool, true, false, _&&_}
+use mathlib.Core.Path.{_≡_, refl, ap, _∙_}
+use mathlib.Core.Bool.{Bool, true, false}
 use mathlib.Core.List.{List, [], _∷_, _++_}
 use Prim.Native.Nat.{ℕ, zero, suc, _+_, _-_, _*_, _/_, _≤_, _<_, min}
 use native.Mathlib.Nat.{le-div-iff-mul-le, mul-le-mul-right}
@@ -17,15 +17,8 @@ use Rattle.field.specs.Sizes.{pagesNeeded, blockInside}
 use Rattle.pack.specs.Pack.{blockSize, pack}
 use Rattle.pack.specs.Plan.{range}
 use Rattle.cuts.specs.Run.{cutsAfter, firstCut, endOr, pieceEnd, piecesAfter}
-use Rattle.split.specs.Write.{spanOf, spansOf, apart, clearOf, placed, bytesIn, packAll, cappedSpans}
+use Rattle.split.specs.Write.{spanOf, spansOf, bytesIn, packAll, cappedSpans}
 use Rattle.cuts.proofs.RunLaws.{run-done, next-after}
-
--- ---- a test that decides, and one that leaves it to the next
-and-false : (x y : Bool) → x ≡ false → (x && y) ≡ false
-and-false x y e = rw e
-
-and-true : (x y : Bool) → x ≡ true → (x && y) ≡ y
-and-true x y e = rw e
 
 -- ---- where a piece ends
 pub end-none : (n x : ℕ) → x ≡ 0 → endOr n x ≡ n
@@ -81,13 +74,6 @@ module _ (N q k : ℕ) where
   pub inside-test : 2 ≤ q → q ≤ N → leb k (N - q) ≡ blockInside N q k
   inside-test h l = rw (le-leb 2 q h) (leb-same k (N - q) (q + k) N (λ x. omega arith) (λ x. omega arith))
 
-module _ (q k r m : ℕ) where
-  pub apart-before : q + k ≤ r → true ≡ apart q k r m
-  apart-before h = rw (le-leb (q + k) r h)
-
-  pub apart-after : r < q + k → leb (r + m) q ≡ apart q k r m
-  apart-after h = rw (lt-leb (q + k) r h)
-
 -- ---- a turn of each loop over the pieces: the piece from entry c to e is the first of those that are left
 module _ (leaf : Bool) (t : ℕ) (b : List ℕ) (end : ℕ) where
   pub after-next : (n k c e : ℕ) → n ≡ suc k → e ≡ pieceEnd leaf t b end c
@@ -95,47 +81,9 @@ module _ (leaf : Bool) (t : ℕ) (b : List ℕ) (end : ℕ) where
   unfolding piecesAfter
   after-next n k c e hn he = rw (hn, he)
 
-  module _ (P : ℕ) (pages : List ℕ) (at c e m : ℕ) (l : at < length pages) (he : e ≡ pieceEnd leaf t b end c) where
+  module _ (P : ℕ) (pages : List ℕ) (at c e : ℕ) (l : at < length pages) (he : e ≡ pieceEnd leaf t b end c) where
     next : piecesAfter leaf t b end (length pages - at) c ≡ range leaf b c e ∷ piecesAfter leaf t b end (length pages - (at + 1)) e
     next = after-next (length pages - at) (length pages - (at + 1)) c e (omega arith) he
-
-    clear-turn : (q k : ℕ) → m ≡ min (spanOf leaf P (range leaf b c e)) 32769
-        → clearOf q k (drop at pages) (cappedSpans leaf P (piecesAfter leaf t b end (length pages - at) c))
-        ≡ apart q k (getD pages at 0) m && clearOf q k (drop (at + 1) pages) (cappedSpans leaf P (piecesAfter leaf t b end (length pages - (at + 1)) e))
-    unfolding clearOf
-    clear-turn q k hm = rw (next, hm, drop-cons pages at 0 l, add-one at)
-
-    -- the block that is tried overlaps this one, or it does not
-    pub clear-hit : (q k : ℕ) (x : Bool) → m ≡ min (spanOf leaf P (range leaf b c e)) 32769 → x ≡ apart q k (getD pages at 0) m → x ≡ false
-        → clearOf q k (drop at pages) (cappedSpans leaf P (piecesAfter leaf t b end (length pages - at) c)) ≡ false
-    clear-hit q k x hm hx e = clear-turn q k hm ∙ and-false _ _ (sym hx ∙ e)
-
-    pub clear-on : (q k : ℕ) (x : Bool) → m ≡ min (spanOf leaf P (range leaf b c e)) 32769 → x ≡ apart q k (getD pages at 0) m → x ≡ true
-        → clearOf q k (drop at pages) (cappedSpans leaf P (piecesAfter leaf t b end (length pages - at) c))
-        ≡ clearOf q k (drop (at + 1) pages) (cappedSpans leaf P (piecesAfter leaf t b end (length pages - (at + 1)) e))
-    clear-on q k x hm hx e = clear-turn q k hm ∙ and-true _ _ (sym hx ∙ e)
-
-    placed-turn : (N : ℕ) → m ≡ min (spanOf leaf P (range leaf b c e)) 32769
-        → placed N (drop at pages) (cappedSpans leaf P (piecesAfter leaf t b end (length pages - at) c))
-        ≡ blockInside N (getD pages at 0) m
-        && (clearOf (getD pages at 0) m (drop (at + 1) pages) (cappedSpans leaf P (piecesAfter leaf t b end (length pages - (at + 1)) e))
-        && placed N (drop (at + 1) pages) (cappedSpans leaf P (piecesAfter leaf t b end (length pages - (at + 1)) e)))
-    unfolding placed
-    placed-turn N hm = rw (next, hm, drop-cons pages at 0 l, add-one at)
-
-    -- a piece whose block is not inside, one that overlaps a later one, and one that does neither
-    module _ (N : ℕ) (x : Bool) (hm : m ≡ min (spanOf leaf P (range leaf b c e)) 32769) (hx : x ≡ blockInside N (getD pages at 0) m) where
-      pub placed-out : x ≡ false → placed N (drop at pages) (cappedSpans leaf P (piecesAfter leaf t b end (length pages - at) c)) ≡ false
-      placed-out e = placed-turn N hm ∙ and-false _ _ (sym hx ∙ e)
-
-      module _ (y : Bool)
-          (hy : y ≡ clearOf (getD pages at 0) m (drop (at + 1) pages) (cappedSpans leaf P (piecesAfter leaf t b end (length pages - (at + 1)) e))) where
-        pub placed-hit : x ≡ true → y ≡ false → placed N (drop at pages) (cappedSpans leaf P (piecesAfter leaf t b end (length pages - at) c)) ≡ false
-        placed-hit i f = placed-turn N hm ∙ and-true _ _ (sym hx ∙ i) ∙ and-false _ _ (sym hy ∙ f)
-
-        pub placed-on : x ≡ true → y ≡ true → placed N (drop at pages) (cappedSpans leaf P (piecesAfter leaf t b end (length pages - at) c))
-            ≡ placed N (drop (at + 1) pages) (cappedSpans leaf P (piecesAfter leaf t b end (length pages - (at + 1)) e))
-        placed-on i f = placed-turn N hm ∙ and-true _ _ (sym hx ∙ i) ∙ and-true _ _ (sym hy ∙ f)
 
     pub bytes-turn : bytesIn P (spansOf leaf P (piecesAfter leaf t b end (length pages - at) c))
         ≡ blockSize leaf (range leaf b c e) P + bytesIn P (spansOf leaf P (piecesAfter leaf t b end (length pages - (at + 1)) e))
@@ -149,14 +97,6 @@ module _ (leaf : Bool) (t : ℕ) (b : List ℕ) (end : ℕ) where
 
   -- at the end of the list nothing is left
   module _ (P : ℕ) (pages : List ℕ) (at c : ℕ) (l : length pages ≤ at) where
-    pub clear-done : (q k : ℕ) (ms : List ℕ) → clearOf q k (drop at pages) ms ≡ true
-    unfolding clearOf
-    clear-done q k ms = rw (drop-of-length-le pages l)
-
-    pub placed-done : (N : ℕ) (ms : List ℕ) → placed N (drop at pages) ms ≡ true
-    unfolding placed
-    placed-done N ms = rw (drop-of-length-le pages l)
-
     pub bytes-done : bytesIn P (spansOf leaf P (piecesAfter leaf t b end (length pages - at) c)) ≡ 0
     unfolding bytesIn piecesAfter
     bytes-done = let e : length pages - at ≡ 0 = omega arith in rw e

@@ -1,9 +1,9 @@
 // The pieces of a split, each written as a packed block into its own stretch of the output.
 ghost use mathlib.Core.Path.{_≡_};
 ghost use mathlib.Core.Bool.{true};
-ghost use Prim.Native.Nat.{_+_, _-_, _<_, _≤_, min};
+ghost use Prim.Native.Nat.{_+_, _<_, _≤_, min};
 ghost use lib.Dec.{leb};
-ghost use lib.ListN.{length, drop};
+ghost use lib.ListN.{length};
 ghost use Rattle.field.specs.Sizes.{sizeAllowed, countAllowed, blockInside};
 ghost use Rattle.field.specs.Run.{putAt};
 ghost use Rattle.page.specs.Layout.{countOf, isLeaf, entriesOf};
@@ -12,13 +12,15 @@ ghost use Rattle.pack.specs.Pack.{nodeSize, blockSize, pack};
 ghost use Rattle.pack.specs.Plan.{range};
 ghost use Rattle.cuts.specs.Split.{piecesOf};
 ghost use Rattle.cuts.specs.Run.{pieceEnd, piecesAfter, Ready};
-ghost use Rattle.split.specs.Write.{spanOf, spansOf, clearOf, placed, bytesIn, packAll, cappedSpans, writtenOf, blockPieces, splitWriteOf, outLeft};
-ghost use Rattle.split.specs.Write.{apart as apartOf};
+ghost use Rattle.split.specs.Write.{spanOf, spansOf, placed, bytesIn, packAll, cappedSpans, writtenOf, blockPieces, splitWriteOf, outLeft};
 use cuts::add_capped;
 use cuts::count_cuts;
 use cuts::half;
 use cuts::next_cut;
 use cuts::run_end;
+use field::marks::lowest_marked;
+use field::marks::mark_pages;
+use field::marks::no_marks;
 use field::sizes::count_allowed;
 use pack::edit::cut;
 use page::layout::count;
@@ -97,68 +99,27 @@ fn inside(n: usize, q: u64, k: usize) -> bool
     k <= n - q as usize
 }
 
-// Whether two blocks do not overlap.
-fn apart(q: u64, k: usize, r: u64, m: usize) -> bool
-    requires { ⌜ (q + k ≤ 32768) × (m ≤ 32769) ⌝ }
-    ensures { λ x. ⌜ x ≡ apartOf q k r m ⌝ }
-{
-    if q + k as u64 <= r {
-        return true;
-    }
-    r + m as u64 <= q
-}
-
-// Whether the block of `k` pages from `q` on overlaps none of those that the list has from `from` on, for the pieces from entry `start` on.
-fn clear_of(
-    b: &[u8],
-    leaf: bool,
-    p: usize,
-    t: usize,
-    end: usize,
-    pages: &[u64],
-    from: usize,
-    start: usize,
-    q: u64,
-    k: usize,
-) -> bool
-    requires { ⌜ Ready leaf (now b) p t end ⌝ }
-    requires { ⌜ (start ≤ countOf (now b)) × (q + k ≤ 32768) ⌝ }
-    ensures { λ x. ⌜ x ≡ clearOf q k (drop from (now (pages .entry)))
-        (cappedSpans leaf p (piecesAfter leaf t (now (b .entry)) end (length (now (pages .entry)) - from) start)) ⌝ }
-{
-    let mut at = from;
-    let mut c = start;
-    while at < pages.len() {
-        let e = piece_end(b, leaf, t, end, c);
-        let m = span(b, leaf, p, c, e);
-        if !apart(q, k, pages[at], m) {
-            return false;
-        }
-        at += 1;
-        c = e;
-    }
-    true
-}
-
 // Whether the block of each piece lies in the image of `n` pages, and no two overlap.
 fn all_placed(b: &[u8], leaf: bool, p: usize, t: usize, end: usize, n: usize, pages: &[u64]) -> bool
     requires { ⌜ Ready leaf (now b) p t end ⌝ }
     requires { ⌜ n ≤ 32768 ⌝ }
     ensures { λ x. ⌜ x ≡ placed n (now (pages .entry)) (cappedSpans leaf p (piecesAfter leaf t (now (b .entry)) end (length (now (pages .entry))) 0)) ⌝ }
 {
+    let mut marks = no_marks();
     let mut at = 0;
     let mut c = 0;
     while at < pages.len() {
         let e = piece_end(b, leaf, t, end, c);
         let k = span(b, leaf, p, c, e);
-        let q = pages[at];
-        if !inside(n, q, k) {
+        if !inside(n, pages[at], k) {
             return false;
         }
+        let q = pages[at] as usize;
+        if lowest_marked(&marks, q, q + k) < q + k {
+            return false;
+        }
+        mark_pages(&mut marks, q, q + k);
         at += 1;
-        if !clear_of(b, leaf, p, t, end, pages, at, e, q, k) {
-            return false;
-        }
         c = e;
     }
     true

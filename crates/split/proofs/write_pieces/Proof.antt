@@ -39,7 +39,7 @@ write-piece-requires c κs =
     let s = l .before .before .before .before in
     let a = s .args in
     let r = s .pre .0 in
-    let n = bytes-turn (a .leaf) (a .t) (a .b .now) (a .end) (a .p) (a .pages .now) (l .loop .i) (l .loop .c) (e .piece-end .result) 0 (omega arith) (e .piece-end .ensures .0) in
+    let n = bytes-turn (a .leaf) (a .t) (a .b .now) (a .end) (a .p) (a .pages .now) (l .loop .i) (l .loop .c) (e .piece-end .result) (omega arith) (e .piece-end .ensures .0) in
     let v = l .loop .inv .2 in
     (r .sound, (e .piece-end .ensures .1, e .piece-end .ensures .2, omega arith, r .most, omega arith))
 
@@ -53,8 +53,8 @@ loop-again c =
     let r = s .pre .0 in
     let o = l .loop .out in
     let x : List ℕ = pack (a .leaf) (getD (a .pages .now) (l .loop .i) 0) (range (a .leaf) (a .b .now) (l .loop .c) (e .piece-end .result)) (a .p) in
-    let n = bytes-turn (a .leaf) (a .t) (a .b .now) (a .end) (a .p) (a .pages .now) (l .loop .i) (l .loop .c) (e .piece-end .result) 0 (omega arith) (e .piece-end .ensures .0) in
-    let k = pack-turn (a .leaf) (a .t) (a .b .now) (a .end) (a .p) (a .pages .now) (l .loop .i) (l .loop .c) (e .piece-end .result) 0 (omega arith) (e .piece-end .ensures .0) in
+    let n = bytes-turn (a .leaf) (a .t) (a .b .now) (a .end) (a .p) (a .pages .now) (l .loop .i) (l .loop .c) (e .piece-end .result) (omega arith) (e .piece-end .ensures .0) in
+    let k = pack-turn (a .leaf) (a .t) (a .b .now) (a .end) (a .p) (a .pages .now) (l .loop .i) (l .loop .c) (e .piece-end .result) (omega arith) (e .piece-end .ensures .0) in
     let v = l .loop .inv .2 in
     let z = length-pack (a .leaf) (getD (a .pages .now) (l .loop .i) 0) (range (a .leaf) (a .b .now) (l .loop .c) (e .piece-end .result)) (a .p) (omega arith) in
     let u = w .write-piece .ensures .0 in
