@@ -1,4 +1,4 @@
-/* The lookup of crates/lookup in plain C, with the same checks: how fast these can be. Nothing is proved of it. */
+/* The lookup of crates/lookup in plain C, with the same checks: what these cost there. Nothing is proved of it. */
 #include <stddef.h>
 #include <stdint.h>
 #include <string.h>

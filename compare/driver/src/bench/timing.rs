@@ -98,7 +98,7 @@ impl Table {
         }
     }
 
-    /// Prints the table as it stands in docs/SPEED.md.
+    /// Prints the table that docs/SPEED.md is made from.
     pub fn print(&self) {
         println!("| call | beside | ratios | median | ours, ns | theirs, ns | goal | outcome |");
         println!("|---|---|---:|---:|---:|---:|---:|---|");

@@ -153,12 +153,31 @@ fn lookup(s: &dyn Subject, image: &Image, key: &[u8]) -> (u64, [u64; 7]) {
     (got.number, got.fields)
 }
 
+/// What the benchmark's lookup in plain C answers.
+#[cfg(feature = "proved")]
+fn in_c(image: &Image, key: &[u8]) -> (u64, [u64; 7]) {
+    let mut fields = [0; 7];
+    (limit::lookup(&image.bytes, image.p, image.n, image.root, key, &mut fields), fields)
+}
+
+/// What it is to answer where lookup answers this.
+#[cfg(feature = "proved")]
+fn breach_as_1((number, fields): (u64, [u64; 7])) -> (u64, [u64; 7]) {
+    if number == 0 {
+        (0, fields)
+    } else {
+        (1, [0; 7])
+    }
+}
+
 /// Some keys of the file and some others, beside the reading.
 fn lookups(run: &mut Run, image: &Image, keys: &[Vec<u8>], what: &str) {
     let asked: Vec<Vec<u8>> = (0..4).map(|_| run.rng.pick(keys)).collect();
     for key in content::questions(&mut run.rng, &asked, 1) {
         let expected = lookup(&Reading, image, &key);
         run.tally.same(lookup(run.subject, image, &key), expected, || format!("{what}: lookup of {key:?}"));
+        #[cfg(feature = "proved")]
+        run.tally.same(in_c(image, &key), breach_as_1(expected), || format!("{what}: lookup in C of {key:?}"));
     }
 }
 
