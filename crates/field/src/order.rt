@@ -100,24 +100,25 @@ pub fn order_of(a: &[u8], b: &[u8]) -> Order
     if n < 8 {
         return order_at(a, b, common_of(a, b));
     }
+    let tail = n - 8;
     let mut i = 0;
-    while 8 <= n - i {
+    while i < tail {
         let x = big_u64_at(a, i);
         let y = big_u64_at(b, i);
-        if x < y {
-            return Order::Lower;
-        }
-        if y < x {
+        if x != y {
+            if x < y {
+                return Order::Lower;
+            }
             return Order::Higher;
         }
         i += 8;
     }
-    let x = big_u64_at(a, n - 8);
-    let y = big_u64_at(b, n - 8);
-    if x < y {
-        return Order::Lower;
-    }
-    if y < x {
+    let x = big_u64_at(a, tail);
+    let y = big_u64_at(b, tail);
+    if x != y {
+        if x < y {
+            return Order::Lower;
+        }
         return Order::Higher;
     }
     order_at(a, b, n)

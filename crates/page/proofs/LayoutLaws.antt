@@ -20,6 +20,11 @@ pub element-room : (leaf : Bool) (b : List ℕ) (i : ℕ) → i < countOf b → 
 element-room false b i l h = omega arith
 element-room true b i l h = omega arith
 
+-- twice as many as the elements of a table within the block are no more than its bytes
+pub twice-room : (leaf : Bool) (b : List ℕ) → tableEnd leaf b ≤ length b → countOf b + countOf b ≤ length b
+twice-room false b l = omega arith
+twice-room true b l = omega arith
+
 -- the part of a block that the code takes is the key
 pub key-part : (leaf : Bool) (b : List ℕ) (i start size : ℕ) → start ≡ keyAt leaf b i → size ≡ keySize leaf b i
     → take (start + size - start) (drop start b) ≡ keyOf leaf b i

@@ -151,7 +151,7 @@ module _ (leaf : Bool) (b : List ℕ) (i : ℕ) where
       let ends = or-neither _ _ (both .0) in
       (ltb-false _ _ (ends .0), ltb-false _ _ (ends .1), both .1)
 
-  good-element : tableEnd leaf b ≤ keyAt leaf b i → valueEnd leaf b i ≤ length b → kindBadAt leaf b i ≡ false → elementBad leaf b i ≡ false
+  pub good-element : tableEnd leaf b ≤ keyAt leaf b i → valueEnd leaf b i ≤ length b → kindBadAt leaf b i ≡ false → elementBad leaf b i ≡ false
   unfolding elementBad
   good-element p q k = rw (le-ltb (keyAt leaf b i) (tableEnd leaf b) p, le-ltb (length b) (valueEnd leaf b i) q, k)
 

@@ -57,7 +57,7 @@ pub fn header_bad(s: &[u8], n: usize, q: usize) -> bool
 }
 
 // Whether the table of elements breaks rule 5.
-fn table_bad(b: &[u8], leaf: bool, empty: bool) -> bool
+pub fn table_bad(b: &[u8], leaf: bool, empty: bool) -> bool
     requires { ⌜ 32 ≤ length (now b) ⌝ }
     ensures { λ r. ⌜ r ≡ tableBad leaf empty (now (b .entry)) ⌝ }
 {
@@ -103,7 +103,7 @@ pub fn outside(from: usize, to: usize, at: usize, pos: usize, key: usize, value:
 }
 
 // Whether a leaf's element `i` breaks rule 6; the table ends at `end`.
-fn leaf_bad(b: &[u8], end: usize, i: usize) -> bool
+pub fn leaf_bad(b: &[u8], end: usize, i: usize) -> bool
     requires { ⌜ (end ≡ tableEnd true (now b)) × (end ≤ length (now b)) × (i < countOf (now b)) ⌝ }
     ensures { λ r. ⌜ r ≡ elementBad true (now (b .entry)) i ⌝ }
 {
@@ -118,7 +118,7 @@ fn leaf_bad(b: &[u8], end: usize, i: usize) -> bool
 }
 
 // Whether a branch's element `i` breaks rule 6; the table ends at `end`.
-fn branch_bad(b: &[u8], end: usize, i: usize) -> bool
+pub fn branch_bad(b: &[u8], end: usize, i: usize) -> bool
     requires { ⌜ (end ≡ tableEnd false (now b)) × (end ≤ length (now b)) × (i < countOf (now b)) ⌝ }
     ensures { λ r. ⌜ r ≡ elementBad false (now (b .entry)) i ⌝ }
 {

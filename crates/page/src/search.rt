@@ -58,7 +58,7 @@ pub fn find(b: &[u8], leaf: bool, n: usize, key: &[u8]) -> Place
     let mut lo = 0;
     let mut hi = n;
     while lo < hi {
-        let mid = lo + (hi - lo) / 2;
+        let mid = (lo + hi) / 2;
         match key_order(b, leaf, mid, key) {
             Order::Lower => {
                 lo = mid + 1;

@@ -14,10 +14,10 @@ use Rattle.field.proofs.order.order_of.Statement.{statement}
 use Rattle.field.proofs.order.order_of.Tie as tie
 
 abbrev Inv-loop : tie.InvT-loop
-Inv-loop a b n i₀ i = (i ≤ n) × (8 ≤ n) × (n ≤ length a) × (n ≤ length b) × (i ≤ commonOf a b)
+Inv-loop a b n tail i₀ i = (i ≤ n) × (8 ≤ n) × (n ≤ length a) × (n ≤ length b) × (i ≤ commonOf a b)
 
 abbrev μ-loop : tie.MeasureT-loop
-μ-loop a b n i₀ i = n - i
+μ-loop a b n tail i₀ i = n - i
 
 left-bytes : (c : tie.At-loop Inv-loop μ-loop) → Bytes (c .before .before .before .before .before .args .a .now)
 left-bytes c k = omega (arith, c .before .before .before .before .shared-slice-known .given k)
@@ -27,7 +27,7 @@ right-bytes c k = omega (arith, c .before .before .before .shared-slice-known2 .
 
 returns-2 : tie.Need-returns-2 Inv-loop μ-loop
 returns-2 c =
-    let l = c .before .before .before .before in
+    let l = c .before .before .before .before .before in
     sym (lower-here _ _ (left-bytes l) (right-bytes l) (l .loop .i) (l .loop .inv .4) (omega arith) (omega arith) (omega arith))
 
 returns-3 : tie.Need-returns-3 Inv-loop μ-loop
@@ -37,12 +37,12 @@ returns-3 c =
 
 loop-again : tie.Need-loop-again Inv-loop μ-loop
 loop-again c =
-    let l = c .before .before .before .before .before in
+    let l = c .before .before .before .before in
     (omega arith, omega arith, omega arith, omega arith, goes-on _ _ (left-bytes l) (right-bytes l) (l .loop .i) (l .loop .inv .4) (omega arith) (omega arith) (omega arith))
 
 returns-4 : tie.Need-returns-4 Inv-loop μ-loop
 returns-4 c =
-    let l = c .before .before .before .before in
+    let l = c .before .before .before .before .before in
     sym (lower-here _ _ (left-bytes l) (right-bytes l) (l .before .before .least .result - 8) (omega (arith, l .loop .inv .4)) (omega arith) (omega arith) (omega arith))
 
 returns-5 : tie.Need-returns-5 Inv-loop μ-loop
@@ -52,7 +52,7 @@ returns-5 c =
 
 order-at-requires-2 : tie.Need-order-at-requires-2 Inv-loop μ-loop
 order-at-requires-2 c κs =
-    let l = c .before .before .before .before .before in
+    let l = c .before .before .before .before in
     let a = l .before .before .before .before .before .args in
     let n = l .before .before .least .result in
     let same = goes-on (now (a .a)) (now (a .b)) (left-bytes l) (right-bytes l) (n - 8) (omega (arith, l .loop .inv .4)) (omega arith) (omega arith) (omega arith) in
@@ -63,9 +63,8 @@ order-of-spec =
     tie.close
     (tie.spec
     Inv-loop μ-loop
-    (λ c κs. search needs)
-    (λ c κs. search needs) (λ c κs. c .common-of .ensures) (λ c. c .order-at .ensures)
-    (λ c. (omega arith, omega arith, omega arith, omega arith, omega arith)) (λ c. search needs)
+    (λ c κs. search needs) (λ c κs. search needs) (λ c κs. c .common-of .ensures) (λ c. c .order-at .ensures)
+    (λ c. (omega arith, omega arith, omega arith, omega arith, omega arith))
     (λ c κs. search needs) (λ c κs. search needs)
     returns-2 returns-3
     (λ c. search needs) (λ c. search needs)

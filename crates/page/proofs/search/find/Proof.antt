@@ -9,7 +9,7 @@ use denote.Ref.{now}
 use Rattle.field.specs.declared.order.Order.the-variants.{Lower, Higher}
 use Rattle.field.specs.Order.{orderOf}
 use Rattle.page.specs.Layout.{keyOf}
-use Rattle.page.proofs.LayoutLaws.{element-room}
+use Rattle.page.proofs.LayoutLaws.{element-room, twice-room}
 use Rattle.page.proofs.SearchLaws.{index-found, index-missing, before-equal, up-to-lower, from-higher-on}
 use Rattle.page.proofs.search.find.Statement.{statement}
 use Rattle.page.proofs.search.find.Tie as tie
@@ -27,11 +27,18 @@ abbrev μ-loop : tie.MeasureT-loop
 loop-holds : tie.Need-loop-holds Inv-loop μ-loop
 loop-holds c = (omega arith, omega arith, λ k l. absurd (omega arith), λ k l m. absurd (omega arith))
 
+add-mid : tie.Need-add-mid Inv-loop μ-loop
+add-mid c =
+    let s = c .before .before .before .before in
+    let e = s .pre .0 in
+    let h = c .before .loop .inv .1 in
+    omega (arith, twice-room (s .args .leaf) (now (s .args .b)) (s .pre .1 .fits))
+
 key-order-requires : tie.Need-key-order-requires Inv-loop μ-loop
 key-order-requires c κs =
     let s = c .before .before .before .before in
     let l = c .before .loop in
-    let mid = l .lo + (l .hi - l .lo) / 2 in
+    let mid = (l .lo + l .hi) / 2 in
     let e = s .pre .0 in
     let w = s .pre .1 .within mid (omega arith) in
     (element-room (s .args .leaf) (now (s .args .b)) mid (omega arith) (s .pre .1 .fits), omega arith)
@@ -41,7 +48,7 @@ loop-again c =
     let s = c .before .before .before .before .before .before .before in
     let l = c .before .before .before .before .loop in
     let e = s .pre .0 in
-    let mid = l .lo + (l .hi - l .lo) / 2 in
+    let mid = (l .lo + l .hi) / 2 in
     let order = sym (c .before .before .key-order .ensures) ∙ c .enum-told .given .1 in
     let lower = up-to-lower (s .args .leaf) true (now (s .args .b)) (s .pre .1) (now (s .args .key)) mid (omega arith) order in
     (omega arith, omega arith, lower, l .inv .3)
@@ -51,7 +58,7 @@ returns c =
     let s = c .before .before .before .before .before .before .before in
     let a = s .args in
     let l = c .before .before .before .before .loop in
-    let mid = l .lo + (l .hi - l .lo) / 2 in
+    let mid = (l .lo + l .hi) / 2 in
     let e = s .pre .0 in
     let same = sym (c .before .before .key-order .ensures) ∙ c .enum-told2 .given .1 in
     sym (index-found (a .leaf) (now (a .b)) (now (a .key)) (a .n) e mid (before-equal (a .leaf) true (now (a .b)) (s .pre .1) (now (a .key)) mid (omega arith) same) (omega arith) same)
@@ -61,7 +68,7 @@ loop-again-2 c =
     let s = c .before .before .before .before .before .before .before in
     let l = c .before .before .before .before .loop in
     let e = s .pre .0 in
-    let mid = l .lo + (l .hi - l .lo) / 2 in
+    let mid = (l .lo + l .hi) / 2 in
     let order = sym (c .before .before .key-order .ensures) ∙ c .enum-told3 .given .1 in
     let higher = from-higher-on (s .args .leaf) true (now (s .args .b)) (s .pre .1) (now (s .args .key)) mid (omega arith) order in
     (omega arith, omega arith, l .inv .2, λ k q m. higher k q (omega arith))
@@ -86,7 +93,7 @@ find-spec =
     (tie.spec
     Inv-loop μ-loop
     loop-holds
-    (λ c. search needs) (λ c. search needs)
+    add-mid
     key-order-requires
     (λ c. search needs) (λ c. search needs) (λ c. search needs)
     loop-again
