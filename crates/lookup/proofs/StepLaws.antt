@@ -37,6 +37,18 @@ seek-never (x ∷ es) key p i r q e c h = go (same (x .key) key) (seek-never es 
     go true ih h = let z : _≡_ {A = ℕ} 0 1 = cc in omega arith
     go false ih h = ih h
 
+-- a page's step is a breach only where its view is bad
+pub step-bad : (v : View Value) (key : Key) (r i m : ℕ) → stepOf v key ≡ Breach r i m → v ≡ bad r i m
+unfolding stepOf
+step-bad (bad s x n) key r i m h = let a : s ≡ r = cc in let b : x ≡ i = cc in let o : n ≡ m = cc in rw (a, b, o)
+step-bad (branch cs) key r i m h = absurd (let z : _≡_ {A = ℕ} 0 1 = cc in omega arith)
+step-bad (leaf es) key r i m h = absurd (seeks (seekFrom es key 0 0) refl h)
+  where
+    seeks : (a : Answer Value) → seekFrom es key 0 0 ≡ a → seekStep a ≡ Breach r i m → ⊥
+    seeks (refused s p j n) g h = seek-never es key 0 0 s p j n g
+    seeks (found y p j) g h = let z : _≡_ {A = ℕ} 0 1 = cc in omega arith
+    seeks absent g h = let z : _≡_ {A = ℕ} 0 1 = cc in omega arith
+
 module _ (N : ℕ) (view : ℕ → Bool → View Value) (key : Key) (d q : ℕ) (t : Bool) (within : inside N q ≡ true) where
   looks-at : lookup N view (suc d) t q key ≡ lookPage (λ p. lookup N view d false p key) (view q t) q key
   unfolding lookup
@@ -57,18 +69,8 @@ module _ (N : ℕ) (view : ℕ → Bool → View Value) (key : Key) (d q : ℕ) 
       go (leaf es) h = absurd (seeks (seekFrom es key 0 0) h)
 
   pub step-breach : (r i m : ℕ) → stepOf (view q t) key ≡ Breach r i m → lookedOf (lookup N view (suc d) t q key) ≡ looked.Refused (faultAt r q i m)
-  unfolding stepOf lookPage
-  step-breach r i m e = ap lookedOf looks-at ∙ go (view q t) e
-    where
-      seeks : (es : List (Item Value)) (a : Answer Value) → seekFrom es key 0 0 ≡ a → seekStep a ≡ Breach r i m → ⊥
-      seeks es (refused s p j n) g h = seek-never es key 0 0 s p j n g
-      seeks es (found y p j) g h = let z : _≡_ {A = ℕ} 0 1 = cc in omega arith
-      seeks es absent g h = let z : _≡_ {A = ℕ} 0 1 = cc in omega arith
-
-      go : (v : View Value) → stepOf v key ≡ Breach r i m → lookedOf (lookPage (λ p. lookup N view d false p key) v q key) ≡ looked.Refused (faultAt r q i m)
-      go (bad s x n) h = let a : s ≡ r = cc in let b : x ≡ i = cc in let o : n ≡ m = cc in rw (a, b, o)
-      go (branch cs) h = absurd (let z : _≡_ {A = ℕ} 0 1 = cc in omega arith)
-      go (leaf es) h = absurd (seeks es (seekFrom es key 0 0) refl h)
+  unfolding lookPage
+  step-breach r i m e = ap lookedOf looks-at ∙ rw (step-bad (view q t) key r i m e)
 
   pub step-found : (x : Value) → stepOf (view q t) key ≡ Found x → lookedOf (lookup N view (suc d) t q key) ≡ looked.Found x
   unfolding stepOf lookPage

@@ -1,5 +1,5 @@
 // The lookup of a key from a root.
-mod descent;
+pub mod descent;
 
 ghost use mathlib.Core.Path.{_≡_};
 ghost use Rattle.view.specs.Fault.{faultAt};
@@ -20,7 +20,7 @@ pub enum Looked {
 }
 
 // The refusal with this number, page, element and length of a common beginning.
-fn refused(number: u64, page: usize, element: usize, common: usize) -> Looked
+pub fn refused(number: u64, page: usize, element: usize, common: usize) -> Looked
     ensures { λ r. ⌜ r ≡ Looked.Refused (faultAt number page element common) ⌝ }
 {
     Looked::Refused(Fault {

@@ -1,0 +1,3 @@
+-- What the contracts of `quick` cite.
+pub mod Halving
+pub mod Quick
