@@ -1,0 +1,2 @@
+-- What is said of the bytes that the quick lookup looks at.
+pub mod Reads
