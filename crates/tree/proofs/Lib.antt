@@ -3,4 +3,5 @@ pub mod UsedPages
 pub mod PassesSound
 pub mod Counts
 pub mod Demand3
+pub mod Quick
 pub mod Numbers

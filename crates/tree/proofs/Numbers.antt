@@ -1,11 +1,13 @@
--- Theorems: every refusal of the judge and of lookup has a number above 0 (`judge-numbered`, `lookup-numbered`). So a judge that answers 0 has passed the
--- image (`zero-passes`), and on an image that passed every lookup answers 0 (`lookup-zero`).
--- 02, order 2: a common beginning above 0 is told by the judge with 6 and 7 alone, by lookup with 6 alone, and of the freelist never (`judge-common`,
--- `lookup-common`, `freelist-common`).
--- What is said of refusals comes from one law, over any claim Q on a refusal's number and common beginning. It holds of the freelist's refusals if it
--- holds of each number above 0 with 0 (`freelist-told`), of lookup's if also of 6 with any (`lookup-told`), of the judge's if also of 7 with any (`judge-told`).
+-- Theorems: every refusal of the judge and of lookup, the full one and the quick one, has a number above 0 (`judge-numbered`, `lookup-numbered`,
+-- `quick-numbered`). So a judge that answers 0 has passed the image (`zero-passes`), and on an image that passed every lookup answers 0 (`lookup-zero`,
+-- `quick-zero`).
+-- 02, order 2: a common beginning above 0 is told by the judge with 6 and 7 alone, by the full lookup with 6 alone, and by the quick lookup and of the freelist
+-- never (`judge-common`, `lookup-common`, `quick-common`, `freelist-common`).
+-- What is said of refusals comes from one law, over any claim Q on a refusal's number and common beginning. It holds of the freelist's refusals and the
+-- quick lookup's if it holds of each number above 0 with 0 (`freelist-told`, `quick-told`), of the full lookup's if also of 6 with any (`lookup-told`), of
+-- the judge's if also of 7 with any (`judge-told`).
 -- Assumes nothing.
-use mathlib.Core.Path.{_≡_, refl, sym, subst}
+use mathlib.Core.Path.{_≡_, refl, sym, subst, _∙_}
 use mathlib.Core.Bool.{Bool, true, false, not, cond, _&&_}
 use mathlib.Core.List.{List, [], _∷_, _++_}
 use mathlib.Core.Option.{Option, none, some}
@@ -19,29 +21,30 @@ use Rattle.page.specs.declared.rules.Verdict.the-variants as verdict
 use Rattle.page.specs.Layout.{countOf, isLeaf}
 use Rattle.page.specs.PageRules.{andThen, breachIf, noCommon, firstBad, tableBad, elementBad, keyBad, commonBefore, headerBad, blockOf, checkOf, afterCheck}
 use Rattle.page.proofs.FirstBreach.{breach-first}
-use Rattle.walk.specs.Tree.{Key, Item, View, bad, branch, leaf, keys, inside, firstIn, Stray, firstOut, unlessTwice, unlessOut, next, Walker, pass, fault, ifPassed, walkAll, walkPage, walk, same, childFor, seekFrom, lookPage, Answer, refused, found, absent, lookup, Verdict as Walk}
+use Rattle.walk.specs.Tree.{Key, Item, View, bad, branch, leaf, keys, inside, firstIn, Stray, firstOut, unlessTwice, unlessOut, next, Walker, pass, fault, ifPassed, walkAll, walkPage, walk, Verdict as Walk}
 use Rattle.view.specs.declared.Fault.{Fault}
 use Rattle.view.specs.declared.Value.{Value}
 use Rattle.lookup.specs.declared.Looked.{Looked}
 use Rattle.lookup.specs.declared.Looked.the-variants as looked
+use Rattle.lookup.specs.declared.descent.Step.{Step}
+use Rattle.lookup.specs.declared.descent.Step.the-variants as step
 use Rattle.judge.specs.declared.Judged.{Judged}
 use Rattle.judge.specs.declared.Judged.the-variants.{Sound, Refused}
 use Rattle.view.specs.Geometry.{geometryBad}
 use Rattle.view.specs.View.{elementsView, blockView, viewOf, pagesAt, pagesOf}
 use Rattle.view.specs.Fault.{faultAt}
-use Rattle.lookup.specs.Lookup.{lookedOf, lookupOf, lookedNumber}
+use Rattle.lookup.specs.Lookup.{lookupOf, lookedNumber}
+use Rattle.lookup.specs.Step.{stepOf}
+use Rattle.lookup.specs.Descent.{descend}
+use Rattle.lookup.proofs.StepLaws.{step-bad}
+use Rattle.lookup.proofs.DescendLaws.{lookup-steps, descend-by}
+use Rattle.quick.specs.declared.halving.Halved.{Halved}
+use Rattle.quick.specs.declared.halving.Halved.the-variants as halved
+use Rattle.quick.specs.Halving.{halvesOf}
+use Rattle.quick.specs.Quick.{saysOf, blockSays, pageSays, quickOf}
 use Rattle.judge.specs.Judge.{idOutside, idNotAbove, idMarked, freeHeaderBad, idsOf, freelistOf, judgedOf, refusedIfTwice, afterTree, judgeOf, Passes, judgedNumber}
 use Rattle.tree.proofs.Demand3.{demand3}
-
--- a leaf's entries refuse nothing
-seek-answers : (es : List (Item Value)) (key : Key) (q i r p j c : ℕ) → seekFrom es key q i ≡ refused r p j c → ⊥
-unfolding seekFrom
-seek-answers [] key q i r p j c h = let z : _≡_ {A = ℕ} 0 1 = cc in omega arith
-seek-answers (x ∷ es) key q i r p j c h = go (same (x .key) key) h (seek-answers es key q (suc i) r p j c)
-  where
-    go : (t : Bool) → cond t (found x q i) (seekFrom es key q (suc i)) ≡ refused r p j c → (seekFrom es key q (suc i) ≡ refused r p j c → ⊥) → ⊥
-    go true g ih = let z : _≡_ {A = ℕ} 0 1 = cc in omega arith
-    go false g ih = ih g
+use Rattle.tree.proofs.Quick.{quick-is-lookup}
 
 -- ---- a claim Q on a refusal's number and common beginning, which holds of each number above 0 with a common beginning of 0
 module _ (Q : ℕ → ℕ → Type 0) (plain : (r : ℕ) → 0 < r → Q r 0) where
@@ -143,39 +146,52 @@ module _ (Q : ℕ → ℕ → Type 0) (plain : (r : ℕ) → 0 < r → Q r 0) wh
         go true none h ih = page (view q t) refl ih h
         go false o h ih = carried 2 0 r c (cc) (cc) (plain 2 (omega arith))
 
-  -- ---- of lookup
-  module _ (N : ℕ) (view : ℕ → Bool → View Value) (viewed : ToldView view) where
-    look-told : (d : ℕ) (t : Bool) (q : ℕ) (key : Key) (r p i c : ℕ) → lookup N view d t q key ≡ refused r p i c → Q r c
-    unfolding lookup lookPage
-    look-told zero t q key r p i c e = carried 9 0 r c (cc) (cc) (plain 9 (omega arith))
-    look-told (suc d) t q key r p i c e = go (inside N q) e (λ k. look-told d false k key r p i c)
-      where
-        page : (v : View Value) → view q t ≡ v → ((k : ℕ) → lookup N view d false k key ≡ refused r p i c → Q r c)
-            → lookPage (λ k. lookup N view d false k key) v q key ≡ refused r p i c → Q r c
-        page (bad k j m) f ih h = carried k m r c (cc) (cc) (viewed q t k j m f)
-        page (branch cs) f ih h = ih (childFor cs key) h
-        page (leaf es) f ih h = absurd (seek-answers es key q 0 r p i c h)
-
-        go : (a : Bool) → cond a (lookPage (λ k. lookup N view d false k key) (view q t) q key) (refused 2 q 0 0) ≡ refused r p i c
-            → ((k : ℕ) → lookup N view d false k key ≡ refused r p i c → Q r c) → Q r c
-        go true h ih = page (view q t) refl ih h
-        go false h ih = carried 2 0 r c (cc) (cc) (plain 2 (omega arith))
-
+  -- ---- of what a page says of a key, and so of lookup, the full one and the quick one
   fault-told : (r p i c : ℕ) (x : Fault) → Q r c → faultAt r p i c ≡ x → Q (x .number) (x .common)
   fault-told r p i c x q u = subst (λ (y : Fault). Q (y .number) (y .common)) u q
 
-  pub lookup-told : ((c : ℕ) → Q 6 c) → (image : List ℕ) (P N root : ℕ) (key : Key) (x : Fault) → lookupOf image P N root key ≡ looked.Refused x → Q (x .number) (x .common)
-  unfolding lookupOf
-  lookup-told six image P N root key x e = go (geometryBad image P N) e
-    where
-      told : (a : Answer Value) → lookup N (viewOf image P N) 16 true root key ≡ a → lookedOf a ≡ looked.Refused x → Q (x .number) (x .common)
-      told (refused r p i c) f h = fault-told r p i c x (look-told N (viewOf image P N) (view-told six image P N) 16 true root key r p i c f) (cc)
-      told (found y p i) f h = absurd (let z : _≡_ {A = ℕ} 0 1 = cc in omega arith)
-      told absent f h = absurd (let z : _≡_ {A = ℕ} 0 1 = cc in omega arith)
+  abbrev ToldLooked : Looked → Type 0
+  ToldLooked a = (x : Fault) → a ≡ looked.Refused x → Q (x .number) (x .common)
 
-      go : (t : Bool) → cond t (looked.Refused (faultAt 1 0 0 0)) (lookedOf (lookup N (viewOf image P N) 16 true root key)) ≡ looked.Refused x → Q (x .number) (x .common)
-      go true h = fault-told 1 0 0 0 x (plain 1 (omega arith)) (cc)
-      go false h = told (lookup N (viewOf image P N) 16 true root key) refl h
+  abbrev ToldSteps : (ℕ → Bool → Step) → Type 0
+  ToldSteps says = (q : ℕ) (t : Bool) (r i c : ℕ) → says q t ≡ step.Breach r i c → Q r c
+
+  -- geometry, and then a descent
+  look-told : (g : Bool) (N root : ℕ) (says : ℕ → Bool → Step) → ToldSteps says
+      → ToldLooked (cond g (looked.Refused (faultAt 1 0 0 0)) (descend N says 16 true root))
+  look-told true N root says told = λ x e. fault-told 1 0 0 0 x (plain 1 (omega arith)) (cc)
+  look-told false N root says told =
+      descend-by ToldLooked N says
+      (λ q x e. fault-told 9 q 0 0 x (plain 9 (omega arith)) (cc)) (λ q x e. fault-told 2 q 0 0 x (plain 2 (omega arith)) (cc))
+      (λ q t v h x e. absurd (let z : _≡_ {A = ℕ} 0 1 = cc in omega arith)) (λ q t h x e. absurd (let z : _≡_ {A = ℕ} 0 1 = cc in omega arith))
+      (λ q t r i c h x e. fault-told r q i c x (told q t r i c h) (cc))
+      16 true root
+
+  -- the full lookup
+  pub lookup-told : ((c : ℕ) → Q 6 c) → (image : List ℕ) (P N root : ℕ) (key : Key) (x : Fault) → lookupOf image P N root key ≡ looked.Refused x → Q (x .number) (x .common)
+  lookup-told six image P N root key x e =
+      look-told (geometryBad image P N) N root (λ p s. stepOf (viewOf image P N p s) key)
+      (λ q t r i c h. view-told six image P N q t r i c (step-bad (viewOf image P N q t) key r i c h)) x (sym (lookup-steps image P N root key) ∙ e)
+
+  -- the quick lookup, whose pages refuse with 3, 4 and 5 alone
+  says-told : (image : List ℕ) (P N : ℕ) (key : Key) → ToldSteps (pageSays image P N key)
+  unfolding pageSays blockSays
+  says-told image P N key q t r i c e =
+      let b = blockOf image P q in
+      go b (headerBad N q (drop (q * P) image)) (tableBad (isLeaf b) (t && isLeaf b) b) (isLeaf b) (halvesOf (isLeaf b) b key) e
+    where
+      go : (b : List ℕ) (h s l : Bool) (x : Halved) → cond h (step.Breach 3 0 0) (cond s (step.Breach 4 0 0) (saysOf l (q * P) b x)) ≡ step.Breach r i c → Q r c
+      go b true s l x f = carried 3 0 r c (cc) (cc) (plain 3 (omega arith))
+      go b false true l x f = carried 4 0 r c (cc) (cc) (plain 4 (omega arith))
+      go b false false l (halved.Breach j) f = carried 5 0 r c (cc) (cc) (plain 5 (omega arith))
+      go b false false true (halved.Found j) f = absurd (let z : _≡_ {A = ℕ} 0 1 = cc in omega arith)
+      go b false false true (halved.Place j) f = absurd (let z : _≡_ {A = ℕ} 0 1 = cc in omega arith)
+      go b false false false (halved.Found j) f = absurd (let z : _≡_ {A = ℕ} 0 1 = cc in omega arith)
+      go b false false false (halved.Place j) f = absurd (let z : _≡_ {A = ℕ} 0 1 = cc in omega arith)
+
+  pub quick-told : (image : List ℕ) (P N root : ℕ) (key : Key) (x : Fault) → quickOf image P N root key ≡ looked.Refused x → Q (x .number) (x .common)
+  unfolding quickOf
+  quick-told image P N root key = look-told (geometryBad image P N) N root (pageSays image P N key) (says-told image P N key)
 
   -- ---- of the judge
   abbrev ToldJudged : Judged → Type 0
@@ -220,6 +236,10 @@ module _ (Q : ℕ → ℕ → Type 0) (plain : (r : ℕ) → 0 < r → Q r 0) wh
 pub lookup-numbered : (image : List ℕ) (P N root : ℕ) (key : Key) (x : Fault) → lookupOf image P N root key ≡ looked.Refused x → 0 < x .number
 lookup-numbered = lookup-told (λ r c. 0 < r) (λ r l. l) (λ c. omega arith)
 
+-- the quick lookup's too
+pub quick-numbered : (image : List ℕ) (P N root : ℕ) (key : Key) (x : Fault) → quickOf image P N root key ≡ looked.Refused x → 0 < x .number
+quick-numbered = quick-told (λ r c. 0 < r) (λ r l. l)
+
 pub judge-numbered : (image : List ℕ) (P N root f : ℕ) (x : Fault) → judgeOf image P N root f ≡ Refused x → 0 < x .number
 judge-numbered = judge-told (λ r c. 0 < r) (λ r l. l) (λ c. omega arith) (λ c. omega arith)
 
@@ -229,6 +249,10 @@ freelist-common = freelist-told (λ r c. c ≡ 0) (λ r l. refl)
 
 pub lookup-common : (image : List ℕ) (P N root : ℕ) (key : Key) (x : Fault) → lookupOf image P N root key ≡ looked.Refused x → 0 < x .common → x .number ≡ 6
 lookup-common = lookup-told (λ r c. 0 < c → r ≡ 6) (λ r l z. absurd (omega arith)) (λ c z. refl)
+
+-- the quick lookup compares no two keys of a page, and tells 0
+pub quick-common : (image : List ℕ) (P N root : ℕ) (key : Key) (x : Fault) → quickOf image P N root key ≡ looked.Refused x → x .common ≡ 0
+quick-common = quick-told (λ r c. c ≡ 0) (λ r l. refl)
 
 pub judge-common : (image : List ℕ) (P N root f : ℕ) (x : Fault) → judgeOf image P N root f ≡ Refused x → 0 < x .common → (x .number ≡ 6) ⊎ (x .number ≡ 7)
 judge-common = judge-told (λ r c. 0 < c → (r ≡ 6) ⊎ (r ≡ 7)) (λ r l z. absurd (omega arith)) (λ c z. inl refl) (λ c z. inr refl)
@@ -250,3 +274,7 @@ lookup-zero image P N root f passes key = go (lookupOf image P N root key) refl
     go (looked.Found v) e = refl
     go looked.Absent e = refl
     go (looked.Refused x) e = absurd (demand3 image P N root f passes .neverRefused key x e)
+
+-- the quick lookup as well
+pub quick-zero : (image : List ℕ) (P N root f : ℕ) → Passes image P N root f → (key : Key) → lookedNumber (quickOf image P N root key) ≡ 0
+quick-zero image P N root f passes key = rw (quick-is-lookup image P N root f passes key) (lookup-zero image P N root f passes key)
