@@ -1,9 +1,9 @@
--- Theorem: a C function that returns 0 has not refused, whatever room its answer buffer has: `lookup-done`, `judge-done`, `meta-done`.
+-- Theorem: a C function that returns 0 has not refused, whatever room its answer buffer has: `lookup-done`, `quick-done`, `judge-done`, `meta-done`.
 -- Assumes nothing.
 use mathlib.Core.Path.{_≡_, sym, ap, _∙_}
 use mathlib.Core.Bool.{Bool, true, false, cond}
 use mathlib.Core.List.{List}
-use Prim.Native.Nat.{ℕ}
+use Prim.Native.Nat.{ℕ, _<_}
 use native.Mathlib.Omega.{arith}
 use Rattle.answer.specs.Answer.{tooShort, numberWith, toldNumber}
 use Rattle.newest.specs.Newest.{newestOf, newestFields}
@@ -17,8 +17,9 @@ use Rattle.lookup.specs.declared.Looked.the-variants as looked
 use Rattle.judge.specs.declared.Judged.{Judged}
 use Rattle.judge.specs.declared.Judged.the-variants as judged
 use Rattle.lookup.specs.Lookup.{lookupOf}
+use Rattle.quick.specs.Quick.{quickOf}
 use Rattle.judge.specs.Judge.{judgeOf}
-use Rattle.tree.proofs.Numbers.{lookup-numbered, judge-numbered}
+use Rattle.tree.proofs.Numbers.{lookup-numbered, quick-numbered, judge-numbered}
 use Rattle.shard.specs.Answer.{lookedFields, judgedFields}
 
 pub zero-told : (count number : ℕ) (answer : List ℕ) → numberWith count number answer ≡ 0 → number ≡ 0
@@ -29,13 +30,24 @@ zero-told count number answer e = go (tooShort count answer) e
     go true h = absurd (omega arith)
     go false h = h
 
-pub lookup-done : (image : List ℕ) (P N root : ℕ) (key : Key) (answer : List ℕ) → toldNumber (lookedFields (lookupOf image P N root key)) answer ≡ 0
-    → (x : Fault) → lookupOf image P N root key ≡ looked.Refused x → ⊥
-lookup-done image P N root key answer e x h =
-    let l = lookup-numbered image P N root key x h in
-    let z : numberWith 7 (x .number) answer ≡ 0 = sym (ap (λ (a : Looked). toldNumber (lookedFields a) answer) h) ∙ e in
+-- of an answer to a key, whose refusals have numbers above 0
+looked-done : (a : Looked) (answer : List ℕ) → ((x : Fault) → a ≡ looked.Refused x → 0 < x .number) → toldNumber (lookedFields a) answer ≡ 0
+    → (x : Fault) → a ≡ looked.Refused x → ⊥
+looked-done a answer numbered e x h =
+    let l = numbered x h in
+    let z : numberWith 7 (x .number) answer ≡ 0 = sym (ap (λ (y : Looked). toldNumber (lookedFields y) answer) h) ∙ e in
     let o = zero-told 7 (x .number) answer z in
     omega arith
+
+-- the full lookup
+pub lookup-done : (image : List ℕ) (P N root : ℕ) (key : Key) (answer : List ℕ) → toldNumber (lookedFields (lookupOf image P N root key)) answer ≡ 0
+    → (x : Fault) → lookupOf image P N root key ≡ looked.Refused x → ⊥
+lookup-done image P N root key answer = looked-done (lookupOf image P N root key) answer (lookup-numbered image P N root key)
+
+-- the quick lookup
+pub quick-done : (image : List ℕ) (P N root : ℕ) (key : Key) (answer : List ℕ) → toldNumber (lookedFields (quickOf image P N root key)) answer ≡ 0
+    → (x : Fault) → quickOf image P N root key ≡ looked.Refused x → ⊥
+quick-done image P N root key answer = looked-done (quickOf image P N root key) answer (quick-numbered image P N root key)
 
 pub judge-done : (image : List ℕ) (P N root f : ℕ) (answer : List ℕ) → toldNumber (judgedFields (judgeOf image P N root f)) answer ≡ 0
     → (x : Fault) → judgeOf image P N root f ≡ judged.Refused x → ⊥

@@ -1,2 +1,3 @@
--- What the contracts of `shard` cite.
+-- What the contracts of `shard` cite, and what is promised of them.
 pub mod Answer
+pub mod Promise

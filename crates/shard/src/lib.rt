@@ -1,6 +1,7 @@
-// The three calls of the shard server, as C functions over numbers and byte slices.
+// The four calls of the shard server, as C functions over numbers and byte slices.
 ghost use mathlib.Core.Path.{_≡_};
 ghost use Rattle.lookup.specs.Lookup.{lookupOf};
+ghost use Rattle.quick.specs.Quick.{quickOf};
 ghost use Rattle.judge.specs.Judge.{judgeOf};
 ghost use Rattle.newest.specs.Newest.{newestOf, newestFields};
 ghost use Rattle.answer.specs.Answer.{toldNumber, toldAnswer};
@@ -13,21 +14,14 @@ use lookup::Looked;
 use lookup::lookup;
 use newest::Newest;
 use newest::newest_meta;
+use quick::quick;
 
-// The number of a lookup's answer, whose fields stand in `answer`: found, kind, place, length, page, element, common.
-#[no_mangle]
-pub extern "C" fn tyvarmos_lookup(
-    image: &[u8],
-    p: usize,
-    n: usize,
-    root: usize,
-    key: &[u8],
-    answer: &mut [u8],
-) -> u64
-    ensures { λ r. ⌜ (r ≡ toldNumber (lookedFields (lookupOf (now (image .entry)) p n root (now (key .entry)))) (now (answer .entry)))
-        × (now (answer .exit) ≡ toldAnswer (lookedFields (lookupOf (now (image .entry)) p n root (now (key .entry)))) (now (answer .entry))) ⌝ }
+// Gives a lookup's answer: its number, and its fields in `answer`: found, kind, place, length, page, element, common.
+fn tell(looked: Looked, answer: &mut [u8]) -> u64
+    ensures { λ r. ⌜ (r ≡ toldNumber (lookedFields looked) (now (answer .entry)))
+        × (now (answer .exit) ≡ toldAnswer (lookedFields looked) (now (answer .entry))) ⌝ }
 {
-    match lookup(image, p, n, root, key) {
+    match looked {
         Looked::Found(v) => {
             let values = [1, wide(v.kind), v.place as u64, v.length as u64, 0, 0, 0];
             give(answer, 0, &values)
@@ -41,6 +35,38 @@ pub extern "C" fn tyvarmos_lookup(
             give(answer, f.number, &values)
         }
     }
+}
+
+// The number of a lookup's answer, whose fields stand in `answer` as `tell` has them.
+#[no_mangle]
+pub extern "C" fn tyvarmos_lookup(
+    image: &[u8],
+    p: usize,
+    n: usize,
+    root: usize,
+    key: &[u8],
+    answer: &mut [u8],
+) -> u64
+    ensures { λ r. ⌜ (r ≡ toldNumber (lookedFields (lookupOf (now (image .entry)) p n root (now (key .entry)))) (now (answer .entry)))
+        × (now (answer .exit) ≡ toldAnswer (lookedFields (lookupOf (now (image .entry)) p n root (now (key .entry)))) (now (answer .entry))) ⌝ }
+{
+    tell(lookup(image, p, n, root, key), answer)
+}
+
+// The same of login's lookup, which looks at the header of each page and at the elements that halving comes by.
+#[no_mangle]
+pub extern "C" fn tyvarmos_quick(
+    image: &[u8],
+    p: usize,
+    n: usize,
+    root: usize,
+    key: &[u8],
+    answer: &mut [u8],
+) -> u64
+    ensures { λ r. ⌜ (r ≡ toldNumber (lookedFields (quickOf (now (image .entry)) p n root (now (key .entry)))) (now (answer .entry)))
+        × (now (answer .exit) ≡ toldAnswer (lookedFields (quickOf (now (image .entry)) p n root (now (key .entry)))) (now (answer .entry))) ⌝ }
+{
+    tell(quick(image, p, n, root, key), answer)
 }
 
 // The number of the judge's answer, whose fields stand in `answer`: entries, pages, page, element, common.
