@@ -32,9 +32,10 @@
  *            the same bytes too, as long as nobody writes to these. If another process changes a mapped file, that is a
  *            write: read the file into memory where it may happen.
  * Stack:     The judge calls itself once for each level of the tree, 16 at most, and used 144,496 bytes for the deepest;
- *            TYVARMOS_JUDGE_STACK leaves room. A thread's default may be less: musl's is 131,072. Lookup and meta used
- *            less than 1,024.
- * Time:      Lookup reads the blocks on the way to the key, the judge every block of the tree, each once.
+ *            TYVARMOS_JUDGE_STACK leaves room. A thread's default may be less: musl's is 131,072. The others used less
+ *            than 1,024.
+ * Time:      Lookup reads the blocks on the way to the key, the judge every block of the tree, each once. Quick reads
+ *            little of each block on the way.
  */
 #ifndef TYVARMOS_H
 #define TYVARMOS_H
@@ -50,7 +51,7 @@
 extern "C" {
 #endif
 
-/* The numbers. The three calls here answer 0 to 9, 11 and 13. Later versions may add some. */
+/* The numbers. The four calls here answer 0 to 9, 11 and 13. Later versions may add some. */
 enum tyvarmos_number {
     TYVARMOS_DONE = 0,             /* the answer is there */
     TYVARMOS_GEOMETRY = 1,         /* a page size or page count that is not allowed, or too few bytes; names no page */
@@ -70,7 +71,7 @@ enum tyvarmos_number {
     TYVARMOS_NODE_TOO_LARGE = 15
 };
 
-/* The fields of tyvarmos_lookup's answer. */
+/* The fields of tyvarmos_lookup's answer, and of tyvarmos_quick's. */
 enum tyvarmos_lookup_field {
     TYVARMOS_LOOKUP_FOUND = 0,     /* 1 if the key is there, and else 0 */
     TYVARMOS_LOOKUP_KIND = 1,      /* 0 for a value that somebody put there, 1 for a bucket */
@@ -91,6 +92,20 @@ enum tyvarmos_lookup_field {
  */
 uint64_t tyvarmos_lookup(const void *image, size_t image_len, uint64_t page_size, uint64_t page_count,
                          uint64_t root_page, const void *key, size_t key_len, void *answer, size_t answer_len);
+
+/*
+ * Looks up a key as tyvarmos_lookup does, with the same fields, in an image that was judged. Of a block on the way only
+ * the header and few elements are read and judged: those that halving comes by, at most as many as the count of elements
+ * has binary digits. Of each it reads the numbers and the key, of a branch also the number of the child to go to.
+ *
+ * On an image, page size, page count and root page for which tyvarmos_judge has returned TYVARMOS_DONE, and whose bytes
+ * have not changed since, it answers what tyvarmos_lookup answers, for every key. On any other it ends all the same, and
+ * answers the same wherever tyvarmos_lookup returns TYVARMOS_DONE. But it may find or miss a key where tyvarmos_lookup
+ * would refuse: of elements that it does not come by it sees nothing, and of keys in the wrong order neither. It never
+ * returns TYVARMOS_ORDER, and the common field is 0. So judge first, or use tyvarmos_lookup.
+ */
+uint64_t tyvarmos_quick(const void *image, size_t image_len, uint64_t page_size, uint64_t page_count,
+                        uint64_t root_page, const void *key, size_t key_len, void *answer, size_t answer_len);
 
 /* The fields of tyvarmos_judge's answer. */
 enum tyvarmos_judge_field {

@@ -9,6 +9,11 @@
 
 enum { MOST = 1 << 20, THREADS = 4, TIMES = 500 };
 
+/* A lookup, full or quick. */
+typedef uint64_t call(const void *, size_t, uint64_t, uint64_t, uint64_t, const void *, size_t, void *, size_t);
+
+static call *const LOOKUPS[] = {tyvarmos_lookup, tyvarmos_quick};
+static call *asked;
 static unsigned char bytes[MOST];
 static size_t length;
 static uint64_t meta[TYVARMOS_META_FIELDS];
@@ -29,11 +34,11 @@ static uint64_t judge(const void *image, size_t held, void *answer, size_t room)
                           meta[TYVARMOS_META_ROOT_PAGE], meta[TYVARMOS_META_FREELIST_PAGE], answer, room);
 }
 
-/* A lookup in the main tree of these bytes. */
+/* The lookup that is asked, in the main tree of these bytes. */
 static uint64_t lookup(const void *image, size_t held, const void *key, size_t key_length, void *answer, size_t room)
 {
-    return tyvarmos_lookup(image, held, meta[TYVARMOS_META_PAGE_SIZE], meta[TYVARMOS_META_PAGE_COUNT],
-                           meta[TYVARMOS_META_ROOT_PAGE], key, key_length, answer, room);
+    return asked(image, held, meta[TYVARMOS_META_PAGE_SIZE], meta[TYVARMOS_META_PAGE_COUNT],
+                 meta[TYVARMOS_META_ROOT_PAGE], key, key_length, answer, room);
 }
 
 static void hold_the_fields(void)
@@ -143,6 +148,37 @@ static void hold_where_keys_part(void)
     HOLDS(found[TYVARMOS_LOOKUP_COMMON] == 10 && found[TYVARMOS_LOOKUP_PLACE] == 0);
 }
 
+/* Root pages that are none, and sizes that are not allowed. */
+static void hold_any_numbers(void)
+{
+    const uint64_t roots[] = {0, 1, 146, UINT64_MAX};
+    uint64_t found[TYVARMOS_LOOKUP_FIELDS];
+    int i;
+    for (i = 0; i < 4; i++) {
+        HOLDS(asked(bytes, length, 1024, 146, roots[i], "world", 5, found, sizeof found) == TYVARMOS_PAGE_NUMBER);
+        HOLDS(found[TYVARMOS_LOOKUP_PAGE] == roots[i] && found[TYVARMOS_LOOKUP_FOUND] == 0);
+    }
+    HOLDS(asked(bytes, length, 1020, 146, 65, "world", 5, found, sizeof found) == TYVARMOS_GEOMETRY);
+    HOLDS(asked(bytes, length, 1024, 1, 65, "world", 5, found, sizeof found) == TYVARMOS_GEOMETRY);
+    HOLDS(asked(bytes, length, 1024, length / 1024 + 1, 65, "world", 5, found, sizeof found) == TYVARMOS_GEOMETRY);
+    HOLDS(asked(bytes, length, UINT64_MAX, UINT64_MAX, 65, "world", 5, found, sizeof found) == TYVARMOS_GEOMETRY);
+}
+
+/* The main tree: leaf 65 of accounts, auctions, characters and world, of which halving comes by characters first. */
+static void hold_what_quick_passes_by(void)
+{
+    static unsigned char damaged[MOST];
+    uint64_t found[TYVARMOS_LOOKUP_FIELDS];
+    memcpy(damaged, bytes, length);
+    damaged[65 * 1024 + 32] = 255;
+    HOLDS(tyvarmos_lookup(damaged, length, 1024, 146, 65, "world", 5, found, sizeof found) == TYVARMOS_ELEMENT);
+    HOLDS(tyvarmos_quick(damaged, length, 1024, 146, 65, "world", 5, found, sizeof found) == TYVARMOS_DONE);
+    HOLDS(found[TYVARMOS_LOOKUP_FOUND] == 1 && found[TYVARMOS_LOOKUP_KIND] == 1);
+    HOLDS(tyvarmos_quick(damaged, length, 1024, 146, 65, "accounts", 8, found, sizeof found) == TYVARMOS_ELEMENT);
+    HOLDS(found[TYVARMOS_LOOKUP_PAGE] == 65 && found[TYVARMOS_LOOKUP_ELEMENT] == 0);
+    HOLDS(found[TYVARMOS_LOOKUP_FOUND] == 0 && found[TYVARMOS_LOOKUP_COMMON] == 0);
+}
+
 static void *look_many_times(void *word)
 {
     uint64_t found[TYVARMOS_LOOKUP_FIELDS], judged[TYVARMOS_JUDGE_FIELDS];
@@ -168,18 +204,24 @@ static void hold_threads(void)
 int main(int count, char **words)
 {
     FILE *file = count == 2 ? fopen(words[1], "rb") : NULL;
+    int i;
     if (file == NULL)
         return 66;
     length = fread(bytes, 1, sizeof bytes, file);
     fclose(file);
     HOLDS(tyvarmos_meta(bytes, length, 0, meta, sizeof meta) == TYVARMOS_DONE);
-    hold_the_fields();
-    hold_empty_runs();
-    hold_the_answer_buffer();
+    for (i = 0; i < 2; i++) {
+        asked = LOOKUPS[i];
+        hold_the_fields();
+        hold_empty_runs();
+        hold_the_answer_buffer();
+        hold_any_numbers();
+        hold_threads();
+    }
     hold_any_alignment();
-    hold_threads();
     hold_overflow_pages();
     hold_where_keys_part();
+    hold_what_quick_passes_by();
     hold_refusals();
     return failed;
 }

@@ -12,7 +12,7 @@
 #include "tyvarmos.h"
 
 enum { PAGE = 1024, PAGES = 20, ROOT = 2, FREELIST = 19, DEEPEST = 17, STACK = 1 << 20, PATTERN = 0xA5, LITTLE = 1024 };
-enum call { NOTHING, LOOKUP, META, JUDGE, CALLS };
+enum call { NOTHING, LOOKUP, QUICK, META, JUDGE, CALLS };
 
 static unsigned char image[PAGES * PAGE];
 static uint64_t answer[TYVARMOS_META_FIELDS], number;
@@ -49,6 +49,8 @@ static void *run(void *word)
     number = 0;
     if (call == LOOKUP)
         number = tyvarmos_lookup(image, sizeof image, PAGE, PAGES, ROOT, "k", 1, answer, sizeof answer);
+    if (call == QUICK)
+        number = tyvarmos_quick(image, sizeof image, PAGE, PAGES, ROOT, "k", 1, answer, sizeof answer);
     if (call == META)
         number = tyvarmos_meta(image, sizeof image, 0, answer, sizeof answer);
     if (call == JUDGE)
@@ -78,7 +80,7 @@ static size_t used(enum call call)
 
 int main(void)
 {
-    size_t most[CALLS] = {0, 0, 0, 0};
+    size_t most[CALLS] = {0, 0, 0, 0, 0};
     int levels, call;
     for (levels = 1; levels <= DEEPEST; levels++) {
         size_t thread;
@@ -94,6 +96,7 @@ int main(void)
                 most[call] = own;
         }
     }
-    printf("bytes of stack: lookup %zu, meta %zu, judge %zu\n", most[LOOKUP], most[META], most[JUDGE]);
-    return most[LOOKUP] > LITTLE || most[META] > LITTLE || most[JUDGE] > TYVARMOS_JUDGE_STACK;
+    printf("bytes of stack: lookup %zu, quick %zu, meta %zu, judge %zu\n", most[LOOKUP], most[QUICK], most[META],
+           most[JUDGE]);
+    return most[LOOKUP] > LITTLE || most[QUICK] > LITTLE || most[META] > LITTLE || most[JUDGE] > TYVARMOS_JUDGE_STACK;
 }

@@ -70,13 +70,13 @@ impl<'a> Image<'a> {
     ///
     /// The first breach on the way: the sizes, or a rule that a page met does not keep.
     pub fn lookup(&self, key: &[u8]) -> Result<Option<Entry<'a>>, Fault> {
-        let (number, [found, kind, place, length, named @ ..]) = raw::lookup(self.bytes, &self.tree, key);
-        if number != 0 {
-            return Err(self.fault(number, named));
-        }
-        let kind = if kind == 0 { Kind::Data } else { Kind::Bucket };
-        let (place, length) = (place as usize, length as usize);
-        Ok((found == 1).then(|| Entry { kind, value: &self.bytes[place..][..length], place }))
+        self.looked(raw::lookup(self.bytes, &self.tree, key))
+    }
+
+    /// What `lookup` answers, for an image that passed the judge. On another it may find or miss a key where `lookup`
+    /// refuses, since it looks at little of each page.
+    pub(crate) fn quick(&self, key: &[u8]) -> Result<Option<Entry<'a>>, Fault> {
+        self.looked(raw::quick(self.bytes, &self.tree, key))
     }
 
     /// The tree of the bucket with this name, or none where the name is absent or another kind of entry.
@@ -113,6 +113,17 @@ impl<'a> Image<'a> {
         self.tree.geometry(self.bytes.len() as u64)
     }
 
+    /// What a lookup's answer says: the entry, that there is none, or the fault.
+    fn looked(&self, (number, fields): raw::Answer<7>) -> Result<Option<Entry<'a>>, Fault> {
+        let [found, kind, place, length, named @ ..] = fields;
+        if number != 0 {
+            return Err(self.fault(number, named));
+        }
+        let kind = if kind == 0 { Kind::Data } else { Kind::Bucket };
+        let (place, length) = (place as usize, length as usize);
+        Ok((found == 1).then(|| Entry { kind, value: &self.bytes[place..][..length], place }))
+    }
+
     /// The fault that a C function answered about this image, with the page, element and common beginning that it names.
     fn fault(&self, number: u64, [page, element, common]: [u64; 3]) -> Fault {
         let fault = Fault::answered(number, page, element).with_common(common);
@@ -133,5 +144,75 @@ impl<'a> Image<'a> {
 impl fmt::Debug for Image<'_> {
     fn fmt(&self, f: &mut fmt::Formatter<'_>) -> fmt::Result {
         f.debug_struct("Image").field("bytes", &self.bytes.len()).field("tree", &self.tree).finish()
+    }
+}
+
+#[cfg(test)]
+mod tests {
+    use super::*;
+
+    /// A leaf of accounts, auctions, characters and world, on page 65; halving comes by characters first.
+    const EXAMPLE: &[u8] = include_bytes!("../../../examples/shard.db");
+    const LEAF: usize = 65 * 1_024;
+    const NAMES: [&[u8]; 4] = [b"accounts", b"auctions", b"characters", b"world"];
+
+    /// The example with a byte changed.
+    fn changed(at: usize, byte: u8) -> Vec<u8> {
+        let mut bytes = EXAMPLE.to_vec();
+        bytes[at] = byte;
+        bytes
+    }
+
+    /// The example's main tree in these bytes.
+    fn of(bytes: &[u8]) -> Image<'_> {
+        Meta::of(EXAMPLE).unwrap().image(bytes)
+    }
+
+    #[test]
+    fn quick_does_not_look_at_elements_that_halving_does_not_come_by() {
+        let bytes = changed(LEAF + 32, 0xFF);
+        let [sound, damaged] = [of(EXAMPLE), of(&bytes)];
+        let fault = Fault::at_element(Number::Element, 65, 0);
+        for name in NAMES {
+            assert_eq!(damaged.lookup(name), Err(fault));
+        }
+        assert_eq!(damaged.quick(b"accounts"), Err(fault));
+        for name in &NAMES[1..] {
+            assert_eq!(damaged.quick(name), sound.lookup(name));
+        }
+    }
+
+    #[test]
+    fn quick_does_not_see_keys_out_of_order() {
+        let at = LEAF + 32 + 4 * 32;
+        assert_eq!(&EXAMPLE[at..at + 8], b"accounts");
+        let bytes = changed(at, b'z');
+        let [sound, damaged] = [of(EXAMPLE), of(&bytes)];
+        for name in NAMES {
+            assert_eq!(damaged.lookup(name), Err(Fault::at_element(Number::Order, 65, 1)));
+        }
+        assert_eq!((damaged.quick(b"accounts"), damaged.quick(b"zccounts")), (Ok(None), Ok(None)));
+        for name in &NAMES[1..] {
+            assert_eq!(damaged.quick(name), sound.lookup(name));
+        }
+    }
+
+    #[test]
+    fn quick_refuses_numbers_and_headers_as_lookup_does() {
+        let Tree { page_size, page_count, root_page, .. } = of(EXAMPLE).tree();
+        let most = u64::MAX;
+        for root_page in [0, 1, page_count, most] {
+            let image = of(EXAMPLE).with_root_page(root_page);
+            assert_eq!(image.quick(b"world"), Err(Fault::at_page(Number::PageNumber, root_page)));
+        }
+        for [page_size, page_count] in [[0, 0], [page_size, 1], [page_size, most], [most, page_count], [1_028, 4]] {
+            let image = Image::new(EXAMPLE, Tree { page_size, page_count, root_page, freelist_page: 0 });
+            assert_eq!(image.quick(b"world"), Err(image.geometry().unwrap_err().into()));
+        }
+        for (at, number) in [(0, Number::Header), (8, Number::Header), (16, Number::Table), (24, Number::Header)] {
+            let bytes = changed(LEAF + at, 0xFF);
+            assert_eq!(of(&bytes).quick(b"world"), Err(Fault::at_page(number, 65)));
+        }
+        assert_eq!(of(&[]).quick(b""), Err(of(&[]).geometry().unwrap_err().into()));
     }
 }

@@ -19,7 +19,8 @@
 //!
 //! [`Image::judge`] reads every page of one tree and the freelist page, and answers a [`Sound`] image or the first
 //! [`Fault`]. A bucket has a tree of its own, judged by itself. [`Image::lookup`] needs no judge before it: it judges
-//! each page that it meets, reads no other byte, and may refuse.
+//! each page that it meets, reads no other byte, and may refuse. [`Sound::get`] relies on the judge, and looks at little
+//! of each page.
 //!
 //! ```
 //! # fn main() -> Result<(), Box<dyn std::error::Error>> {
@@ -40,18 +41,18 @@
 //!
 //! # What is proved and what is not
 //!
-//! Lookup, the judge and the choice of the meta page are C functions of libshard.a, whose answers are proved for every
-//! input; the repository's docs/PROMISES.md has the statements. This crate passes slices to them and gives types to
-//! their answers. It is not proved, it is tested, and it has no `unsafe` besides these calls.
+//! Both lookups, the judge and the choice of the meta page are C functions of libshard.a, whose answers are proved for
+//! every input; the repository's docs/PROMISES.md has the statements. This crate passes slices to them and gives types
+//! to their answers. It is not proved, it is tested, and it has no `unsafe` besides these calls.
 //!
 //! # Mapped files
 //!
 //! A [`Sound`] image borrows its bytes, so nothing in the program can change them while it lives. All calls take
 //! `&[u8]`, which the mappings of the crate memmap2 give as well: `Image::of_file(&mmap)`. To make such a mapping is
 //! unsafe, since another process can change or shorten the file, which no borrow prevents; whoever maps a file answers
-//! for that. The file is then another image than the one that was judged: [`Sound::get`] may panic or miss a key, and a
-//! page that cannot be read ends the process by a signal. Where a file is in use or its disk is in doubt, read it into
-//! memory.
+//! for that. The file is then another image than the one that was judged: [`Sound::get`] may panic or miss a key, where
+//! [`Image::lookup`] might have refused, and a page that cannot be read ends the process by a signal. Where a file is in
+//! use or its disk is in doubt, read it into memory.
 //!
 //! # Building
 //!

@@ -13,6 +13,10 @@ extern "C" {
         image: *const u8, image_len: usize, page_size: u64, page_count: u64, root_page: u64,
         key: *const u8, key_len: usize, answer: *mut u8, answer_len: usize,
     ) -> u64;
+    fn tyvarmos_quick(
+        image: *const u8, image_len: usize, page_size: u64, page_count: u64, root_page: u64,
+        key: *const u8, key_len: usize, answer: *mut u8, answer_len: usize,
+    ) -> u64;
     fn tyvarmos_judge(
         image: *const u8, image_len: usize, page_size: u64, page_count: u64, root_page: u64, freelist_page: u64,
         answer: *mut u8, answer_len: usize,
@@ -32,6 +36,16 @@ pub(crate) fn lookup(image: &[u8], tree: &Tree, key: &[u8]) -> Answer<7> {
     // SAFETY: both slices are lent for reading, and the answer buffer has room for the seven fields.
     ask(|answer, room| unsafe {
         tyvarmos_lookup(start, length, page_size, page_count, root_page, key.as_ptr(), key.len(), answer, room)
+    })
+}
+
+/// The same, where of each page only the header and the elements that halving comes by are judged.
+pub(crate) fn quick(image: &[u8], tree: &Tree, key: &[u8]) -> Answer<7> {
+    let (start, length) = (image.as_ptr(), image.len());
+    let Tree { page_size, page_count, root_page, .. } = *tree;
+    // SAFETY: both slices are lent for reading, and the answer buffer has room for the seven fields.
+    ask(|answer, room| unsafe {
+        tyvarmos_quick(start, length, page_size, page_count, root_page, key.as_ptr(), key.len(), answer, room)
     })
 }
 

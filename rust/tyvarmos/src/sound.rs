@@ -25,12 +25,17 @@ pub struct Sound<'a> {
 impl<'a> Sound<'a> {
     /// The entry with this key, or none where no leaf of the tree holds it.
     ///
+    /// Of each page on the way it looks at the header and at the elements that halving comes by, at most as many as the
+    /// page's count of elements has binary digits, and at nothing else: the judge has seen to the rest. On what was judged
+    /// the answer is proved to be that of [`Image::lookup`], for every key.
+    ///
     /// # Panics
     ///
-    /// Only where the bytes were changed behind the borrow, as another process can change a mapped file.
+    /// Only where the bytes were changed behind the borrow, as another process can change a mapped file. Of such a change
+    /// it sees no more than what it looks at; [`Image::lookup`] sees more.
     #[must_use]
     pub fn get(&self, key: &[u8]) -> Option<Entry<'a>> {
-        self.image.lookup(key).expect("the bytes of an image that was judged sound have changed")
+        self.image.quick(key).expect("the bytes of an image that was judged sound have changed")
     }
 
     /// The tree of the bucket with this name, not yet judged, or none where there is no such bucket.

@@ -12,7 +12,7 @@ const RAW: &str = include_str!("../../src/raw.rs");
 fn header_and_rust_declare_what_is_linked() {
     let linked = in_rattle(SHARD);
     let names: Vec<&str> = linked.iter().map(|function| function.name.as_str()).collect();
-    assert_eq!(names, ["tyvarmos_lookup", "tyvarmos_judge", "tyvarmos_meta"]);
+    assert_eq!(names, ["tyvarmos_lookup", "tyvarmos_quick", "tyvarmos_judge", "tyvarmos_meta"]);
     assert_eq!(in_c(HEADER), linked);
     assert_eq!(in_rust(RAW), linked);
 }
@@ -47,12 +47,22 @@ fn number_after(text: &str, word: &str) -> usize {
 
 #[test]
 fn answers_have_as_many_fields_on_each_side() {
-    for name in ["lookup", "judge", "meta"] {
-        let counts = field_counts(body(SHARD, &format!("tyvarmos_{name}")));
-        let header = number_after(HEADER, &format!("TYVARMOS_{}_FIELDS = ", name.to_uppercase()));
+    let told = [
+        ("lookup", "tell", "LOOKUP"),
+        ("quick", "tell", "LOOKUP"),
+        ("judge", "tyvarmos_judge", "JUDGE"),
+        ("meta", "tyvarmos_meta", "META"),
+    ];
+    for (name, teller, fields) in told {
+        let counts = field_counts(body(SHARD, teller));
+        let header = number_after(HEADER, &format!("TYVARMOS_{fields}_FIELDS = "));
         let wrapper = RAW.split_once(&format!("pub(crate) fn {name}(")).unwrap().1;
         assert_eq!((header, number_after(wrapper, "Answer<")), (counts[0], counts[0]), "{name}");
         assert!(counts.len() >= 2 && counts.iter().all(|count| *count == counts[0]), "{name}: {counts:?}");
+    }
+    for name in ["lookup", "quick"] {
+        let told = format!("\n{{\n    tell({name}(image, p, n, root, key), answer)");
+        assert!(body(SHARD, &format!("tyvarmos_{name}")).ends_with(&told), "{name}");
     }
     assert_eq!(field_counts("let values = [1, 2,\n 3,\n];let values = [0; 7];"), [3, 7]);
 }

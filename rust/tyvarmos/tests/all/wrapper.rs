@@ -42,6 +42,7 @@ fn keys_near_those_of_the_example_are_absent() {
         for key in &keys {
             for near in [[key.as_slice(), b"!"].concat(), [b"\0".as_slice(), key].concat(), key[1..].to_vec()] {
                 assert_eq!(sound.get(&near).is_some(), keys.contains(&near), "{near:?}");
+                assert_eq!(sound.image().lookup(&near), Ok(sound.get(&near)), "{near:?}");
             }
         }
         assert_eq!(sound.get(b""), None);
