@@ -1,4 +1,4 @@
-/* The lookup of crates/lookup in plain C, with the same checks: what these cost there. Nothing is proved of it. */
+/* The lookups of crates/lookup and crates/quick in plain C, with the same checks: what these cost there. Not proved. */
 #include <stddef.h>
 #include <stdint.h>
 #include <string.h>
@@ -52,22 +52,47 @@ static inline struct key key_of(const uint8_t *e, int leaf) {
     return (struct key){e + u64_at(e + (leaf ? 8 : 16)), u64_at(e + (leaf ? 16 : 8))};
 }
 
-/* Whether a block of `size` bytes keeps rules 5 to 7: one pass over its elements, in which each number is read once. */
+/* Whether an image of `len` bytes has sizes that are not allowed, or too few bytes for them. */
+static inline int sizes_bad(size_t len, uint64_t p, uint64_t n) {
+    return p < 1024 || p > 65536 || p % 8 != 0 || n < 2 || n > 32768 || len < n * p;
+}
+
+/* The block of page `q`, by rules 2 and 4, or none. */
+static inline const uint8_t *block_of(const uint8_t *image, uint64_t p, uint64_t n, uint64_t q) {
+    if (q < 2 || q >= n)
+        return NULL;
+    const uint8_t *b = image + q * p;
+    if (u64_at(b) != q || (b[8] != TYPE_BRANCH && b[8] != TYPE_LEAF) || u64_at(b + 24) >= n - q)
+        return NULL;
+    return b;
+}
+
+/* Whether the table of a block of `size` bytes breaks rule 5. */
+static inline int table_bad(uint64_t size, uint64_t count, int leaf, int empty) {
+    return (count == 0 && !empty) || count > (size - HEADER_SIZE) / (leaf ? LEAF_SIZE : BRANCH_SIZE);
+}
+
+/* Whether the element at `at` of a block of `size` bytes, whose table ends at `end`, breaks rule 6. */
+static inline int element_bad(const uint8_t *b, uint64_t size, uint64_t end, uint64_t at, int leaf) {
+    const uint8_t *e = b + at;
+    uint64_t pos = u64_at(e + (leaf ? 8 : 16)), length = u64_at(e + (leaf ? 16 : 8));
+    uint64_t value = leaf ? u64_at(e + 24) : 0, rest = size - at - pos;
+    if (pos - (end - at) > size - end || length > rest || value > rest - length)
+        return 1;
+    return leaf && e[0] != 0 && (e[0] != 1 || value != 16);
+}
+
+/* Whether a block of `size` bytes keeps rules 5 to 7: one pass over its elements. */
 static inline int sound(const uint8_t *b, uint64_t size, uint64_t count, int leaf, int empty) {
     const uint64_t stride = leaf ? LEAF_SIZE : BRANCH_SIZE;
-    if ((count == 0 && !empty) || count > (size - HEADER_SIZE) / stride)
+    if (table_bad(size, count, leaf, empty))
         return 0;
     const uint64_t end = HEADER_SIZE + stride * count;
     struct key before = {b, 0};
     for (uint64_t at = HEADER_SIZE; at < end; at += stride) {
-        const uint8_t *e = b + at;
-        uint64_t pos = u64_at(e + (leaf ? 8 : 16)), length = u64_at(e + (leaf ? 16 : 8));
-        uint64_t value = leaf ? u64_at(e + 24) : 0, rest = size - at - pos;
-        if (pos - (end - at) > size - end || length > rest || value > rest - length)
+        if (element_bad(b, size, end, at, leaf))
             return 0;
-        if (leaf && e[0] != 0 && (e[0] != 1 || value != 16))
-            return 0;
-        struct key key = {e + pos, length};
+        struct key key = key_of(b + at, leaf);
         struct pair order = order_of(before, key);
         if (at != HEADER_SIZE && order.a >= order.b)
             return 0;
@@ -76,14 +101,20 @@ static inline int sound(const uint8_t *b, uint64_t size, uint64_t count, int lea
     return 1;
 }
 
-/* The element of a sound block that has the key, by halving, or else the one before its place; `found` says which. */
-static inline const uint8_t *find(const uint8_t *b, uint64_t count, int leaf, struct key key, int *found) {
-    const uint64_t stride = leaf ? LEAF_SIZE : BRANCH_SIZE;
+/*
+ * The element of a block that has the key, by halving, or else the one before its place; `found` says which. In a block
+ * that was not judged, each element looked at is tried by rule 6, and there is none at a breach.
+ */
+static inline const uint8_t *find(const uint8_t *b, uint64_t size, uint64_t count, int leaf, int judged, struct key key,
+                                  int *found) {
+    const uint64_t stride = leaf ? LEAF_SIZE : BRANCH_SIZE, end = HEADER_SIZE + stride * count;
     uint64_t lo = 0, hi = count;
     *found = 0;
     while (lo < hi && !*found) {
-        uint64_t mid = lo + (hi - lo) / 2;
-        struct pair order = order_of(key_of(b + HEADER_SIZE + stride * mid, leaf), key);
+        uint64_t mid = lo + (hi - lo) / 2, at = HEADER_SIZE + stride * mid;
+        if (!judged && element_bad(b, size, end, at, leaf))
+            return NULL;
+        struct pair order = order_of(key_of(b + at, leaf), key);
         *found = order.a == order.b;
         if (order.a <= order.b)
             lo = mid + 1;
@@ -93,33 +124,70 @@ static inline const uint8_t *find(const uint8_t *b, uint64_t count, int leaf, st
     return b + HEADER_SIZE + stride * (lo ? lo - 1 : 0);
 }
 
+/* Writes the fields of a leaf's element that was found. */
+static inline void give(uint64_t answer[7], const uint8_t *image, const uint8_t *e) {
+    memcpy(answer, (uint64_t[]){1, e[0], e + u64_at(e + 8) + u64_at(e + 16) - image, u64_at(e + 24)}, 32);
+}
+
 /* The answer of tyvarmos_lookup, in the same fields, but for a breach: whichever it is, 1 with all fields 0. */
 uint64_t limit_lookup(const uint8_t *image, size_t len, uint64_t p, uint64_t n, uint64_t root, const uint8_t *key,
                       size_t key_len, uint64_t answer[7]) {
     struct key wanted = {key, key_len};
     memset(answer, 0, 7 * sizeof *answer);
-    if (p < 1024 || p > 65536 || p % 8 != 0 || n < 2 || n > 32768 || len < n * p)
+    if (sizes_bad(len, p, n))
         return 1;
     uint64_t q = root;
     int found;
     for (int level = 1; level <= LEVELS; level++) {
-        if (q < 2 || q >= n)
+        const uint8_t *b = block_of(image, p, n, q);
+        if (!b)
             return 1;
-        const uint8_t *b = image + q * p;
-        uint64_t count = u64_at(b + 16), overflow = u64_at(b + 24), size = (overflow + 1) * p;
-        if (u64_at(b) != q || (b[8] != TYPE_BRANCH && b[8] != TYPE_LEAF) || overflow >= n - q)
-            return 1;
+        uint64_t count = u64_at(b + 16), size = (u64_at(b + 24) + 1) * p;
         if (b[8] == TYPE_LEAF) {
             if (!sound(b, size, count, 1, level == 1))
                 return 1;
-            const uint8_t *e = find(b, count, 1, wanted, &found);
+            const uint8_t *e = find(b, size, count, 1, 1, wanted, &found);
             if (found)
-                memcpy(answer, (uint64_t[]){1, e[0], e + u64_at(e + 8) + u64_at(e + 16) - image, u64_at(e + 24)}, 32);
+                give(answer, image, e);
             return 0;
         }
         if (!sound(b, size, count, 0, 0))
             return 1;
-        q = u64_at(find(b, count, 0, wanted, &found));
+        q = u64_at(find(b, size, count, 0, 1, wanted, &found));
+    }
+    return 1;
+}
+
+/* The same of tyvarmos_quick. */
+uint64_t limit_quick(const uint8_t *image, size_t len, uint64_t p, uint64_t n, uint64_t root, const uint8_t *key,
+                     size_t key_len, uint64_t answer[7]) {
+    struct key wanted = {key, key_len};
+    memset(answer, 0, 7 * sizeof *answer);
+    if (sizes_bad(len, p, n))
+        return 1;
+    uint64_t q = root;
+    int found;
+    for (int level = 1; level <= LEVELS; level++) {
+        const uint8_t *b = block_of(image, p, n, q);
+        if (!b)
+            return 1;
+        uint64_t count = u64_at(b + 16), size = (u64_at(b + 24) + 1) * p;
+        if (b[8] == TYPE_LEAF) {
+            if (table_bad(size, count, 1, level == 1))
+                return 1;
+            const uint8_t *e = find(b, size, count, 1, 0, wanted, &found);
+            if (!e)
+                return 1;
+            if (found)
+                give(answer, image, e);
+            return 0;
+        }
+        if (table_bad(size, count, 0, 0))
+            return 1;
+        const uint8_t *e = find(b, size, count, 0, 0, wanted, &found);
+        if (!e)
+            return 1;
+        q = u64_at(e);
     }
     return 1;
 }

@@ -2,8 +2,9 @@
 
 use reading::block::Held;
 use reading::freelist::Table;
+use reading::lookup::Found;
 use reading::meta::Meta;
-use reading::{edit, judge, layout, lookup, meta, newest, pack, search, split, words, Fault};
+use reading::{edit, judge, layout, lookup, meta, newest, pack, quick, search, split, words, Fault};
 use subject::{Branch, Leaf, MetaFields, Subject};
 
 pub struct Reading;
@@ -50,6 +51,11 @@ fn on_table(words: &mut [u64], call: impl FnOnce(&mut Table) -> Fields) -> Field
     Ok(fields)
 }
 
+/// What a lookup of either kind found.
+fn found_fields(found: Option<Found>) -> Vec<u64> {
+    found.map_or(vec![0; 4], |f| vec![1, f.kind, f.place, f.length])
+}
+
 fn size_fields(block: &[u8], p: u64) -> Fields {
     let size = edit::size(block, p)?;
     let merging = edit::needs_merging(block, p)?;
@@ -83,10 +89,11 @@ impl Subject for Reading {
     }
 
     fn lookup(&self, image: &[u8], p: u64, n: u64, root: u64, key: &[u8], answer: &mut [u8]) -> u64 {
-        give(answer, named(4), || {
-            let found = lookup::lookup(image, p, n, root, key)?;
-            Ok(found.map_or(vec![0; 4], |f| vec![1, f.kind, f.place, f.length]))
-        })
+        give(answer, named(4), || lookup::lookup(image, p, n, root, key).map(found_fields))
+    }
+
+    fn quick(&self, image: &[u8], p: u64, n: u64, root: u64, key: &[u8], answer: &mut [u8]) -> u64 {
+        give(answer, named(4), || quick::quick(image, p, n, root, key).map(found_fields))
     }
 
     fn judge(&self, image: &[u8], p: u64, n: u64, root: u64, freelist: u64, answer: &mut [u8]) -> u64 {

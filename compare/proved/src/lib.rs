@@ -36,6 +36,10 @@ impl Subject for Proved {
         call!(tyvarmos_lookup: in image; of p; of n; of root; in key; out answer;)
     }
 
+    fn quick(&self, image: &[u8], p: u64, n: u64, root: u64, key: &[u8], answer: &mut [u8]) -> u64 {
+        call!(tyvarmos_quick: in image; of p; of n; of root; in key; out answer;)
+    }
+
     fn judge(&self, image: &[u8], p: u64, n: u64, root: u64, freelist: u64, answer: &mut [u8]) -> u64 {
         call!(tyvarmos_judge: in image; of p; of n; of root; of freelist; out answer;)
     }

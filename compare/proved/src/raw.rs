@@ -11,6 +11,10 @@ extern "C" {
         image: Bytes, image_len: usize, p: u64, n: u64, root: u64, key: Bytes, key_len: usize,
         answer: BytesMut, answer_len: usize,
     ) -> u64;
+    pub fn tyvarmos_quick(
+        image: Bytes, image_len: usize, p: u64, n: u64, root: u64, key: Bytes, key_len: usize,
+        answer: BytesMut, answer_len: usize,
+    ) -> u64;
     pub fn tyvarmos_judge(
         image: Bytes, image_len: usize, p: u64, n: u64, root: u64, freelist: u64,
         answer: BytesMut, answer_len: usize,

@@ -78,8 +78,8 @@ pub fn lent_block(bytes: &[u8], p: u64) -> Result<Block<'_>, Fault> {
     read_block(bytes, true)
 }
 
-/// Rules 5 to 7 over a whole block.
-fn read_block(bytes: &[u8], empty_allowed: bool) -> Result<Block<'_>, Fault> {
+/// Rule 5: where the element table ends.
+pub fn table_end(bytes: &[u8], empty_allowed: bool) -> Result<u128, Fault> {
     let header = header(bytes);
     let leaf = header.kind == LEAF;
     let table_end = TABLE_START as u128 + u128::from(header.count) * element_size(leaf) as u128;
@@ -87,6 +87,14 @@ fn read_block(bytes: &[u8], empty_allowed: bool) -> Result<Block<'_>, Fault> {
     if empty_refused || table_end > bytes.len() as u128 {
         return Err(refusal(4));
     }
+    Ok(table_end)
+}
+
+/// Rules 5 to 7 over a whole block.
+fn read_block(bytes: &[u8], empty_allowed: bool) -> Result<Block<'_>, Fault> {
+    let table_end = table_end(bytes, empty_allowed)?;
+    let header = header(bytes);
+    let leaf = header.kind == LEAF;
     let mut block = Block { id: header.id, leaf, entries: Vec::new(), places: Vec::new() };
     for element in 0..header.count as usize {
         let (entry, place) = read_element(bytes, leaf, element, table_end).ok_or(element_fault(5, element))?;
@@ -103,7 +111,7 @@ fn read_block(bytes: &[u8], empty_allowed: bool) -> Result<Block<'_>, Fault> {
 }
 
 /// Rule 6 for one element: its entry and where the key starts, or nothing on a breach.
-fn read_element(bytes: &[u8], leaf: bool, element: usize, table_end: u128) -> Option<(Entry<'_>, usize)> {
+pub fn read_element(bytes: &[u8], leaf: bool, element: usize, table_end: u128) -> Option<(Entry<'_>, usize)> {
     let at = TABLE_START + element * element_size(leaf);
     let (tag, pos, key_size, value_size) = if leaf {
         (u64::from(bytes[at]), u64_at(bytes, at + 8), u64_at(bytes, at + 16), u64_at(bytes, at + 24))

@@ -1,5 +1,5 @@
-//! Document 01, as 02's orders 3 and 2 amend it, read plainly, from their text alone: straight code over byte slices,
-//! with sums that cannot wrap.
+//! Document 01, as 02's orders 3 and 2 amend it, and 02's order 5, read plainly, from their text alone: straight code
+//! over byte slices, with sums that cannot wrap.
 //!
 //! Nothing here is fast or clever. It is what the crate and the proved code are held against.
 
@@ -13,6 +13,7 @@ pub mod lookup;
 pub mod meta;
 pub mod newest;
 pub mod pack;
+pub mod quick;
 pub mod search;
 pub mod split;
 pub mod words;

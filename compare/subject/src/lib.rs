@@ -35,6 +35,8 @@ pub trait Subject {
 
     /// Fields: found, kind, place, length, page, element, common.
     fn lookup(&self, image: &[u8], p: u64, n: u64, root: u64, key: &[u8], answer: &mut [u8]) -> u64;
+    /// Fields: found, kind, place, length, page, element, common.
+    fn quick(&self, image: &[u8], p: u64, n: u64, root: u64, key: &[u8], answer: &mut [u8]) -> u64;
     /// Fields: entries, pages, page, element, common.
     fn judge(&self, image: &[u8], p: u64, n: u64, root: u64, freelist: u64, answer: &mut [u8]) -> u64;
 
@@ -82,6 +84,33 @@ pub trait Subject {
     fn meta_write(&self, page: &mut [u8], fields: &MetaFields, answer: &mut [u8]) -> u64;
     /// Fields: hash.
     fn fnv1a(&self, bytes: &[u8], answer: &mut [u8]) -> u64;
+}
+
+/// The two lookups, which have the same arguments and fields.
+#[derive(Clone, Copy, Debug, PartialEq, Eq)]
+pub enum Lookup {
+    Full,
+    Quick,
+}
+
+impl Lookup {
+    pub const BOTH: [Lookup; 2] = [Lookup::Full, Lookup::Quick];
+
+    /// The call's name.
+    pub fn name(self) -> &'static str {
+        match self {
+            Lookup::Full => "lookup",
+            Lookup::Quick => "quick",
+        }
+    }
+
+    /// What a subject answers to it. The numbers are the page size, the page count and the root.
+    pub fn by(self, s: &dyn Subject, image: &[u8], (p, n, root): (u64, u64, u64), key: &[u8]) -> Answer<7> {
+        ask(|answer| match self {
+            Lookup::Full => s.lookup(image, p, n, root, key, answer),
+            Lookup::Quick => s.quick(image, p, n, root, key, answer),
+        })
+    }
 }
 
 /// A leaf entry to insert.

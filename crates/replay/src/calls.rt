@@ -32,16 +32,18 @@ use probe::splits::tyvarmos_split;
 use probe::splits::tyvarmos_split_write;
 use shard::tyvarmos_judge;
 use shard::tyvarmos_lookup;
+use shard::tyvarmos_quick;
 
 // A call on the image.
 fn on_image(r: &[u8], image: &[u8], answer: &mut [u8]) -> u64 {
     let p = count(r, 0);
     let n = count(r, 1);
     let root = count(r, 2);
-    if call(r) == 1 {
-        return tyvarmos_lookup(image, p, n, root, part(r, KEY), answer);
+    match call(r) {
+        1 => tyvarmos_lookup(image, p, n, root, part(r, KEY), answer),
+        23 => tyvarmos_quick(image, p, n, root, part(r, KEY), answer),
+        _ => tyvarmos_judge(image, p, n, root, count(r, 3), answer),
     }
-    tyvarmos_judge(image, p, n, root, count(r, 3), answer)
 }
 
 // A question about a block.
@@ -215,7 +217,7 @@ pub fn made_call(
     answer: &mut [u8],
 ) -> u64 {
     match call(r) {
-        1 | 2 => on_image(r, image, answer),
+        1 | 2 | 23 => on_image(r, image, answer),
         3..=5 => on_block(r, answer),
         11 => cut(r, list, out, answer),
         14 => initial(r, table, list, answer),

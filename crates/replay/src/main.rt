@@ -122,7 +122,7 @@ fn replay_file(file: &[u8]) {
     let mut record = io::large_buffer();
     let mut image = io::large_buffer();
     let mut table = new_table();
-    let mut counts = [0u64; 48];
+    let mut counts = [0u64; 50];
     replay_all(file, &mut record, &mut image, &mut table, &mut counts);
     summary(&counts);
 }

@@ -43,7 +43,7 @@ fn block_rows(counts: &[u64]) {
     row(counts, 12, b"split_write");
 }
 
-// Prints the rows of the calls on tables and metas.
+// Prints the rows of the calls on tables and metas, and of the quick lookup, which came after them.
 fn table_rows(counts: &[u64]) {
     row(counts, 13, b"free_new");
     row(counts, 14, b"free_init");
@@ -55,6 +55,7 @@ fn table_rows(counts: &[u64]) {
     row(counts, 20, b"meta_read");
     row(counts, 21, b"meta_write");
     row(counts, 22, b"fnv1a");
+    row(counts, 23, b"quick");
 }
 
 // Prints the counts of every call, of what could not be read, and the sums.

@@ -1,7 +1,7 @@
 // Counts of answers: for each call how many were the same, then how many differ; the sums stand last.
 
 // How many calls there are: 0 stands for a record that cannot be read.
-pub const CALLS: usize = 23;
+pub const CALLS: usize = 24;
 
 // Where a call's count stands, or, for one more than the last call, the sum's.
 fn place(call: usize, differs: bool) -> usize {

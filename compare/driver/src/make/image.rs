@@ -1,6 +1,6 @@
 //! An image and the numbers it is asked about with.
 
-use subject::{ask, Answer, Subject};
+use subject::{ask, Answer, Lookup, Subject};
 
 #[derive(Clone)]
 pub struct Image {
@@ -26,7 +26,7 @@ impl Image {
     }
 
     /// Found, kind, place, length, page, element, common.
-    pub fn looked(&self, s: &dyn Subject, key: &[u8]) -> Answer<7> {
-        ask(|answer| s.lookup(&self.bytes, self.p, self.n, self.root, key, answer))
+    pub fn looked(&self, call: Lookup, s: &dyn Subject, key: &[u8]) -> Answer<7> {
+        call.by(s, &self.bytes, (self.p, self.n, self.root), key)
     }
 }

@@ -48,6 +48,7 @@ pub fn run(run: &mut Run) {
 fn on_images<'a>(s: &'a dyn Subject, image: &'a [u8]) -> Vec<Call<'a>> {
     vec![
         ("lookup", 7, Box::new(|_, answer| s.lookup(image, P, 4, 2, &[5], answer))),
+        ("quick", 7, Box::new(|_, answer| s.quick(image, P, 4, 2, &[5], answer))),
         ("judge", 5, Box::new(|_, answer| s.judge(image, P, 4, 2, 3, answer))),
     ]
 }

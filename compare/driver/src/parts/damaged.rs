@@ -1,4 +1,4 @@
-//! Files made by the crate, then damaged: judge and lookup beside the reading.
+//! Files made by the crate, then damaged: judge and both lookups beside the reading.
 //! Where the judge passes a copy, every key of its tree is found.
 
 use std::collections::BTreeMap;
@@ -6,11 +6,12 @@ use std::collections::BTreeMap;
 use oracle::probe::meta_page::Fields;
 use oracle::probe::{file, search};
 use reading::block::page_block;
-use subject::{Answer, Subject};
+use subject::{Answer, Lookup};
 
 use super::commons::Commons;
 use super::files::{descend, worked, Temporary, View};
 use super::hostile::change;
+use super::lookups;
 use super::Run;
 use crate::by_reading::Reading;
 use crate::make::content;
@@ -31,8 +32,9 @@ const PLANS: [Plan; 7] = [
     Plan { pagesize: 1_024, steps: 4, puts: 4, deletes: 1, keys: 12, value: 51_200, nested: false },
 ];
 
-/// Copies made of each file.
+/// Copies made of each file, and how many of them for each that is asked about again with other bytes outside.
 const COPIES: usize = 2_500;
+const OUTSIDE: usize = 250;
 
 /// A file with its trees (every block, the root's first, then the freelist's) and the keys in them.
 struct Made {
@@ -42,13 +44,46 @@ struct Made {
 }
 
 /// What came of the copies: how often each number, the common beginnings of 6 and 7, the keys found in those that passed,
-/// the pages of the longest block.
+/// the pages of the longest block, the lookups that were refused.
 #[derive(Default)]
 struct Seen {
     numbers: BTreeMap<u64, u64>,
     commons: Commons,
     found: usize,
     longest: u64,
+    refused: Refused,
+}
+
+/// How many lookups were refused, and how many of these the quick lookup answered all the same, with an entry or none.
+#[derive(Default)]
+struct Refused {
+    times: u64,
+    found: u64,
+    absent: u64,
+}
+
+impl Refused {
+    /// Adds what both lookups answered.
+    fn add(&mut self, [full, quick]: [Answer<7>; 2]) {
+        if full.number == 0 {
+            return;
+        }
+        self.times += 1;
+        match (quick.number, quick.fields[0]) {
+            (0, 0) => self.absent += 1,
+            (0, _) => self.found += 1,
+            _ => {}
+        }
+    }
+
+    /// Says how many there were, and that both kinds came.
+    fn tell(&self, run: &mut Run) {
+        let Refused { times, found, absent } = self;
+        println!("  of {times} lookups refused, quick answered {found} with an entry and {absent} with none");
+        run.tally.check(*found > 0 && *absent > 0, || {
+            "quick answered no refused lookup with an entry, or none without".into()
+        });
+    }
 }
 
 pub fn run(run: &mut Run) {
@@ -61,12 +96,13 @@ pub fn run(run: &mut Run) {
             compare(run, &made, &format!("file {round}, copy {copy}"), &mut seen);
         }
     }
-    let Seen { numbers, commons, found, longest } = seen;
+    let Seen { numbers, commons, found, longest, refused } = seen;
     let (copies, passed) = (numbers.values().sum::<u64>(), numbers.get(&0).copied().unwrap_or(0));
     println!("  damaged: {copies} copies, {passed} passed the judge, {found} keys found in them");
     let numbers: Vec<String> = numbers.iter().map(|(number, times)| format!("{number}: {times}")).collect();
     println!("  numbers given back by the judge: {}; blocks of up to {longest} pages", numbers.join(", "));
     commons.tell(run);
+    refused.tell(run);
 }
 
 /// Damages a copy of a file and asks about it.
@@ -79,7 +115,7 @@ fn compare(run: &mut Run, made: &Made, what: &str, seen: &mut Seen) {
     if run.rng.one_in(12) {
         cut(&mut run.rng, &mut image);
     }
-    lookups(run, &image, &made.keys, what);
+    lookups(run, &image, &made.keys, what, seen);
     let Answer { number, fields: [.., common] } = judged(run, &image, what);
     seen.commons.add(number, common);
     *seen.numbers.entry(number).or_default() += 1;
@@ -148,36 +184,27 @@ fn garbage(rng: &mut Rng, bytes: &mut [u8]) {
     bytes[at..at + length].copy_from_slice(&stretch);
 }
 
-fn lookup(s: &dyn Subject, image: &Image, key: &[u8]) -> (u64, [u64; 7]) {
-    let got = image.looked(s, key);
-    (got.number, got.fields)
-}
-
-/// What the benchmark's lookup in plain C answers.
-#[cfg(feature = "proved")]
-fn in_c(image: &Image, key: &[u8]) -> (u64, [u64; 7]) {
-    let mut fields = [0; 7];
-    (limit::lookup(&image.bytes, image.p, image.n, image.root, key, &mut fields), fields)
-}
-
-/// What it is to answer where lookup answers this.
-#[cfg(feature = "proved")]
-fn breach_as_1((number, fields): (u64, [u64; 7])) -> (u64, [u64; 7]) {
-    if number == 0 {
-        (0, fields)
-    } else {
-        (1, [0; 7])
+/// Some keys of the file and some others, beside the reading; at times one of them with other bytes outside.
+fn lookups(run: &mut Run, image: &Image, keys: &[Vec<u8>], what: &str, seen: &mut Seen) {
+    let asked: Vec<Vec<u8>> = (0..4).map(|_| run.rng.pick(keys)).collect();
+    for key in content::questions(&mut run.rng, &asked, 1) {
+        let expected = lookups::compare(run, image, &key, what);
+        seen.refused.add(expected);
+        #[cfg(feature = "proved")]
+        in_c(run, image, &key, expected, what);
+    }
+    if run.rng.one_in(OUTSIDE) {
+        lookups::outside(run, image, &asked[0], what);
     }
 }
 
-/// Some keys of the file and some others, beside the reading.
-fn lookups(run: &mut Run, image: &Image, keys: &[Vec<u8>], what: &str) {
-    let asked: Vec<Vec<u8>> = (0..4).map(|_| run.rng.pick(keys)).collect();
-    for key in content::questions(&mut run.rng, &asked, 1) {
-        let expected = lookup(&Reading, image, &key);
-        run.tally.same(lookup(run.subject, image, &key), expected, || format!("{what}: lookup of {key:?}"));
-        #[cfg(feature = "proved")]
-        run.tally.same(in_c(image, &key), breach_as_1(expected), || format!("{what}: lookup in C of {key:?}"));
+/// Holds the benchmark's lookups in plain C to what the reading answers, where every breach is 1 with all fields 0.
+#[cfg(feature = "proved")]
+fn in_c(run: &mut Run, image: &Image, key: &[u8], expected: [Answer<7>; 2], what: &str) {
+    for (call, expected) in Lookup::BOTH.into_iter().zip(expected) {
+        let expected = if expected.number == 0 { expected } else { Answer { number: 1, fields: [0; 7] } };
+        let got = limit::looked(call, &image.bytes, (image.p, image.n, image.root), key);
+        run.tally.same(got, expected, || format!("{what}: {} in C of {key:?}", call.name()));
     }
 }
 
@@ -192,13 +219,19 @@ fn judged(run: &mut Run, image: &Image, what: &str) -> Answer<5> {
 fn whole(run: &mut Run, image: &Image, what: &str) -> usize {
     let mut entries = BTreeMap::new();
     walk(image, image.root, true, &mut entries);
+    let same = |run: &mut Run, key: &[u8], fields: [u64; 7]| {
+        for call in Lookup::BOTH {
+            let got = image.looked(call, run.subject, key);
+            run.tally.same(got, Answer { number: 0, fields }, || format!("{what}: {} of {key:?}", call.name()));
+        }
+    };
     for (key, fields) in &entries {
-        run.tally.same(lookup(run.subject, image, key), (0, *fields), || format!("{what}: entry {key:?}"));
+        same(run, key, *fields);
         let mut absent = key.clone();
         while entries.contains_key(&absent) {
             absent.push(run.rng.next() as u8);
         }
-        run.tally.same(lookup(run.subject, image, &absent), (0, [0; 7]), || format!("{what}: absent {absent:?}"));
+        same(run, &absent, [0; 7]);
     }
     entries.len()
 }

@@ -8,6 +8,7 @@ pub mod files;
 pub mod findings;
 pub mod freelist;
 pub mod hostile;
+mod lookups;
 pub mod meta;
 pub mod node;
 pub mod page;

@@ -1,10 +1,14 @@
-//! Sound images made here: the judge's counts, and lookup beside the crate's own descent.
+//! Sound images made here: the judge's counts, and both lookups beside the crate's own descent.
 
-use oracle::probe::search::{Hit, Image};
-use subject::ask;
+use oracle::probe::search::Image;
+use subject::Lookup;
 
+use super::lookups::{hit, outside};
 use super::Run;
 use crate::make::{self, content, tree};
+
+/// How many keys of an image are looked for again with other bytes outside.
+const OUTSIDE: usize = 6;
 
 pub fn run(run: &mut Run) {
     for round in 0..run.rounds {
@@ -17,25 +21,20 @@ pub fn run(run: &mut Run) {
         let make::image::Image { bytes, p, n, root, .. } = &tree.image;
         let image = Image::new(bytes, *p);
         let keys: Vec<Vec<u8>> = tree.items.iter().map(|item| item.key.clone()).collect();
-        for key in content::questions(&mut run.rng, &keys, 30) {
-            let hit = looked(run, bytes, (*p, *n, *root), &key);
-            run.tally.same(hit, Ok(image.get(*root, &key)), || format!("{}: lookup of {key:?}", what()));
-            let place = tree.items.iter().find(|item| item.key == key).map(|item| item.value.clone());
-            let value = image.get(*root, &key).map(|hit| hit.value);
-            run.tally.same(value, place, || format!("{}: the crate's get of {key:?}", what()));
+        let questions = content::questions(&mut run.rng, &keys, 30);
+        for key in &questions {
+            let by_crate = image.get(*root, key);
+            for call in Lookup::BOTH {
+                let hit = hit(call, run, bytes, (*p, *n, *root), key);
+                run.tally.same(hit.as_ref(), Ok(&by_crate), || format!("{}: {} of {key:?}", what(), call.name()));
+            }
+            let value = tree.items.iter().find(|item| item.key == *key).map(|item| item.value.clone());
+            let by_crate = by_crate.map(|hit| hit.value);
+            run.tally.same(by_crate, value, || format!("{}: the crate's get of {key:?}", what()));
         }
-    }
-}
-
-/// The subject's lookup in the crate's words: the entry, nothing, or the number of a refusal.
-pub fn looked(run: &Run, image: &[u8], (p, n, root): (u64, u64, u64), key: &[u8]) -> Result<Option<Hit>, u64> {
-    let got = ask::<7>(|answer| run.subject.lookup(image, p, n, root, key, answer));
-    match (got.number, got.fields) {
-        (0, [0, 0, 0, 0, 0, 0, 0]) => Ok(None),
-        (0, [1, kind, place, length, 0, 0, 0]) => {
-            let value = image[place as usize..(place + length) as usize].to_vec();
-            Ok(Some(Hit { kind, place, value }))
+        for _ in 0..OUTSIDE {
+            let key = run.rng.pick(&questions);
+            outside(run, &tree.image, &key, &what());
         }
-        (number, _) => Err(number),
     }
 }

@@ -1,4 +1,4 @@
-//! Images: lookups by the crate's descent, and what the judge counts in files that the crate's own check passes.
+//! Images: both lookups by the crate's descent, and what the judge counts in files that the crate's own check passes.
 
 use std::fs;
 
@@ -82,12 +82,9 @@ fn lookups(rng: &mut Rng, tape: &mut Tape, bytes: &[u8], (p, n, root): (u64, u64
     keys.truncate(6);
     for key in content::questions(rng, &keys, 2) {
         let hit = image.get(root, &key);
-        tape.add(&Record {
-            call: Call::Lookup,
-            arguments: &[p, n, root],
-            key: &key,
-            fields: &hit.map_or([0; 7], |hit| [1, hit.kind, hit.place, hit.value.len() as u64, 0, 0, 0]),
-            ..Record::default()
-        });
+        let fields = hit.map_or([0; 7], |hit| [1, hit.kind, hit.place, hit.value.len() as u64, 0, 0, 0]);
+        for call in [Call::Lookup, Call::Quick] {
+            tape.add(&Record { call, arguments: &[p, n, root], key: &key, fields: &fields, ..Record::default() });
+        }
     }
 }

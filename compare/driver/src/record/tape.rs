@@ -27,10 +27,11 @@ pub enum Call {
     MetaRead,
     MetaWrite,
     Fnv1a,
+    Quick,
 }
 
 /// The calls' names, in the order of their numbers.
-const NAMES: [&str; 23] = [
+const NAMES: [&str; 24] = [
     "not readable",
     "lookup",
     "judge",
@@ -54,6 +55,7 @@ const NAMES: [&str; 23] = [
     "meta_read",
     "meta_write",
     "fnv1a",
+    "quick",
 ];
 
 const ARGUMENTS: usize = 9;

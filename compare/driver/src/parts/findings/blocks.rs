@@ -2,7 +2,7 @@
 
 use oracle::probe::search::{self, Image};
 use oracle::probe::{edit, write_content, Content, Item};
-use subject::{ask, Branch};
+use subject::{ask, Branch, Lookup};
 
 use super::Run;
 use crate::make::fields::{get, put, put_header};
@@ -78,22 +78,27 @@ fn short_bucket_value(run: &mut Run) {
     run.tally.same((got.number, got.fields[3]), (5, 0), || "finding 5".into());
 }
 
-/// 6. A child of page 0 makes every key below it absent; 01's lookup says 2.
+/// 6. A child of page 0 makes every key below it absent; either lookup says 2.
 fn missing_child(run: &mut Run) {
     let image = [vec![0; 2_048], write_content(&branch(&[("b", 0)]), P, 2, 0)].concat();
     run.tally.same(Image::new(&image, P).get(2, b"b"), None, || "finding 6, the crate".into());
-    let got = ask::<7>(|answer| run.subject.lookup(&image, P, 3, 2, b"b", answer));
-    run.tally.same((got.number, got.fields), (2, [0; 7]), || "finding 6".into());
+    for call in Lookup::BOTH {
+        let got = call.by(run.subject, &image, (P, 3, 2), b"b");
+        run.tally.same((got.number, got.fields), (2, [0; 7]), || format!("finding 6, {}", call.name()));
+    }
 }
 
-/// 7. An empty page below the root, or an empty branch, holds no key; 01's lookup says 4.
+/// 7. An empty page below the root, or an empty branch, holds no key; either lookup says 4.
 fn empty_below_root(run: &mut Run) {
     let mut image = [vec![0; 2_048], write_content(&branch(&[("b", 3)]), P, 2, 0), vec![0; 1_024]].concat();
     for (root, page, kind) in [(2, 3, 2), (2, 3, 1), (3, 3, 1)] {
         put_header(&mut image[3_072..], 3, kind, 0, 0);
         run.tally.same(Image::new(&image, P).get(root, b"b"), None, || "finding 7, the crate".into());
-        let got = ask::<7>(|answer| run.subject.lookup(&image, P, 4, root, b"b", answer));
-        run.tally.same((got.number, got.fields), (4, [0, 0, 0, 0, page, 0, 0]), || "finding 7".into());
+        for call in Lookup::BOTH {
+            let got = call.by(run.subject, &image, (P, 4, root), b"b");
+            let expected = (4, [0, 0, 0, 0, page, 0, 0]);
+            run.tally.same((got.number, got.fields), expected, || format!("finding 7, {}", call.name()));
+        }
     }
 }
 
@@ -125,13 +130,15 @@ fn limits(run: &mut Run) {
 
     let image = chain(17);
     run.tally.check(Image::new(&image, P).get(2, b"b").is_some(), || "finding 21, 17 levels of the crate".into());
-    let got = ask::<7>(|answer| run.subject.lookup(&image, P, 19, 2, b"b", answer));
-    run.tally.same((got.number, got.fields), (9, [0, 0, 0, 0, 18, 0, 0]), || "finding 21, levels".into());
-
-    let image = [chain(2), vec![0; 32_765 * 1_024]].concat();
-    for (n, number) in [(32_768, 0), (32_769, 1)] {
-        let got = ask::<7>(|answer| run.subject.lookup(&image, P, n, 2, b"b", answer));
-        run.tally.same(got.number, number, || format!("finding 21, {n} pages"));
+    let longest = [chain(2), vec![0; 32_765 * 1_024]].concat();
+    for call in Lookup::BOTH {
+        let got = call.by(run.subject, &image, (P, 19, 2), b"b");
+        let expected = (9, [0, 0, 0, 0, 18, 0, 0]);
+        run.tally.same((got.number, got.fields), expected, || format!("finding 21, levels, {}", call.name()));
+        for (n, number) in [(32_768, 0), (32_769, 1)] {
+            let got = call.by(run.subject, &longest, (P, n, 2), b"b");
+            run.tally.same(got.number, number, || format!("finding 21, {n} pages, {}", call.name()));
+        }
     }
 }
 

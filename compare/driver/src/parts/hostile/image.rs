@@ -1,6 +1,7 @@
-//! Judge and lookup on changed images.
+//! Judge and both lookups on changed images.
 
 use oracle::probe::search;
+use subject::Lookup;
 
 use super::{change, Seen};
 use crate::by_reading::Reading;
@@ -10,7 +11,7 @@ use crate::make::image::{Image, Span};
 use crate::make::overlap::overlap;
 use crate::make::parting::part;
 use crate::make::tree::{self, Tree};
-use crate::parts::tree::looked;
+use crate::parts::lookups::{compare, hit, outside};
 use crate::parts::Run;
 use crate::rng::Rng;
 
@@ -69,14 +70,16 @@ fn judge(run: &mut Run, round: usize, image: &Image, seen: &mut Seen) {
 fn lookups(run: &mut Run, round: usize, image: &Image, keys: &[Vec<u8>], seen: &mut Seen) {
     let Image { bytes, p, n, root, .. } = image;
     let by_crate = search::Image::new(bytes, *p);
-    for key in content::questions(&mut run.rng, keys, 3) {
-        let expected = image.looked(&Reading, &key);
-        seen.add(expected.number, expected.fields[6]);
-        let what = || format!("round {round}: lookup of {key:?}, P {p} N {n}");
-        run.tally.same(image.looked(run.subject, &key), expected, what);
-        if expected.number == 0 {
-            let hit = looked(run, bytes, (*p, *n, *root), &key);
-            run.tally.same(hit, Ok(by_crate.get(*root, &key)), || format!("round {round}: the crate's get of {key:?}"));
+    let what = format!("round {round}, P {p} N {n}");
+    let questions = content::questions(&mut run.rng, keys, 3);
+    for key in &questions {
+        let expected = compare(run, image, key, &what);
+        expected.iter().for_each(|answer| seen.add(answer.number, answer.fields[6]));
+        if expected[0].number == 0 {
+            let hit = hit(Lookup::Full, run, bytes, (*p, *n, *root), key);
+            run.tally.same(hit, Ok(by_crate.get(*root, key)), || format!("{what}: the crate's get of {key:?}"));
         }
     }
+    let key = run.rng.pick(&questions);
+    outside(run, image, &key, &what);
 }

@@ -1,23 +1,23 @@
-//! Images: a sound one, and what judge and lookup say when it is changed.
+//! Images: a sound one, and what the judge and both lookups say when it is changed.
 
 use oracle::probe::{write_content, Content, Item};
-use subject::ask;
+use subject::{ask, Lookup};
 
 use super::Run;
 use crate::make::fields::{freelist_block, put, put_header};
 
-const P: u64 = 1_024;
-const N: u64 = 10;
-const MAX: u64 = u64::MAX;
+pub const P: u64 = 1_024;
+pub const N: u64 = 10;
+pub const MAX: u64 = u64::MAX;
 
 /// Where the fields of the sound image lie: pages 2 (root), 3 and 4 (leaves), 5 (freelist).
-const ROOT: usize = 2 * 1_024;
-const LEFT: usize = 3 * 1_024;
-const RIGHT: usize = 4 * 1_024;
+pub const ROOT: usize = 2 * 1_024;
+pub const LEFT: usize = 3 * 1_024;
+pub const RIGHT: usize = 4 * 1_024;
 const FREE: usize = 5 * 1_024;
 
 /// A change: so many numbers put at these places.
-type Change<'a> = &'a [(usize, u64)];
+pub type Change<'a> = &'a [(usize, u64)];
 /// Number, page, element and common beginning.
 type Fault = (u64, u64, u64, u64);
 
@@ -51,10 +51,15 @@ fn judged(run: &mut Run, image: &[u8], (p, n): (u64, u64), root: u64, freelist: 
     run.tally.same((got.number, got.fields), expected, || format!("judge P {p} N {n} root {root} freelist {freelist}"));
 }
 
+/// Holds both lookups to the same answer without an entry.
 fn looked(run: &mut Run, image: &[u8], (p, n): (u64, u64), root: u64, key: &str, fault: Fault) {
-    let got = ask::<7>(|answer| run.subject.lookup(image, p, n, root, key.as_bytes(), answer));
+    Lookup::BOTH.into_iter().for_each(|call| looked_by(call, run, image, (p, n, root), key, fault));
+}
+
+fn looked_by(call: Lookup, run: &mut Run, image: &[u8], numbers: (u64, u64, u64), key: &str, fault: Fault) {
+    let got = call.by(run.subject, image, numbers, key.as_bytes());
     let expected = (fault.0, [0, 0, 0, 0, fault.1, fault.2, fault.3]);
-    run.tally.same((got.number, got.fields), expected, || format!("lookup {key} P {p} N {n} root {root}"));
+    run.tally.same((got.number, got.fields), expected, || format!("{} of {key}, {numbers:?}", call.name()));
 }
 
 fn geometry(run: &mut Run) {
@@ -97,56 +102,67 @@ fn roots(run: &mut Run) {
     }
 }
 
-/// Breaches of rules 2, 4, 5, 6 and 7 in leaf 3, which both judge and lookup of c meet.
+/// Where in the image the first element of leaf 3 has its pos, key size and value size.
+const POS: usize = LEFT + 40;
+const KEY_SIZE: usize = LEFT + 48;
+const VALUE_SIZE: usize = LEFT + 56;
+
+/// Changes that break rules 2, 4, 5, 6 and 7 in leaf 3, or in the root for it, and the fault of each.
+const BREACHES: [(Change, Fault); 27] = [
+    (&[(ROOT + 32, 1)], (2, 1, 0, 0)),
+    (&[(ROOT + 32, MAX)], (2, MAX, 0, 0)),
+    (&[(LEFT, 4)], (3, 3, 0, 0)),
+    (&[(LEFT + 8, 3)], (3, 3, 0, 0)),
+    (&[(LEFT + 8, 4)], (3, 3, 0, 0)),
+    (&[(LEFT + 24, 7)], (3, 3, 0, 0)),
+    (&[(LEFT + 24, MAX)], (3, 3, 0, 0)),
+    (&[(LEFT + 24, MAX - 2)], (3, 3, 0, 0)),
+    (&[(LEFT + 16, 0)], (4, 3, 0, 0)),
+    (&[(ROOT + 16, 0)], (4, 2, 0, 0)),
+    (&[(LEFT + 16, 32)], (4, 3, 0, 0)),
+    (&[(LEFT + 16, 1 << 59)], (4, 3, 0, 0)),
+    (&[(LEFT + 16, MAX)], (4, 3, 0, 0)),
+    (&[(LEFT + 16, 31)], (5, 3, 0, 0)),
+    (&[(POS, 63)], (5, 3, 0, 0)),
+    (&[(POS, 0)], (5, 3, 0, 0)),
+    (&[(POS, 1_024 - 32 - 1)], (5, 3, 0, 0)),
+    (&[(POS, MAX)], (5, 3, 0, 0)),
+    (&[(POS, 70), (KEY_SIZE, MAX - 60)], (5, 3, 0, 0)),
+    (&[(VALUE_SIZE, MAX - 90)], (5, 3, 0, 0)),
+    (&[(VALUE_SIZE, 928)], (5, 3, 0, 0)),
+    (&[(LEFT + 64, 2)], (5, 3, 1, 0)),
+    (&[(LEFT + 64, 1)], (5, 3, 1, 0)),
+    (&[(LEFT + 96, 0x61_31_62)], (6, 3, 1, 0)),
+    (&[(LEFT + 96, 0x62_31_62)], (6, 3, 1, 1)),
+    (&[(LEFT + 96, 0x62_31_62), (LEFT + 64, 2)], (5, 3, 1, 0)),
+    (&[(LEFT + 64, 2), (LEFT + 8, 9)], (3, 3, 0, 0)),
+];
+
+/// Breaches of rules 2, 4, 5, 6 and 7 in leaf 3, which both judge and full lookup of c meet; the quick lookup sees those
+/// of whole pages, and that c itself, the first that it looks at there, breaks rule 6.
 fn pages(run: &mut Run) {
-    let (pos, key_size, value_size) = (LEFT + 40, LEFT + 48, LEFT + 56);
-    let cases: [(Change, Fault); 27] = [
-        (&[(ROOT + 32, 1)], (2, 1, 0, 0)),
-        (&[(ROOT + 32, MAX)], (2, MAX, 0, 0)),
-        (&[(LEFT, 4)], (3, 3, 0, 0)),
-        (&[(LEFT + 8, 3)], (3, 3, 0, 0)),
-        (&[(LEFT + 8, 4)], (3, 3, 0, 0)),
-        (&[(LEFT + 24, 7)], (3, 3, 0, 0)),
-        (&[(LEFT + 24, MAX)], (3, 3, 0, 0)),
-        (&[(LEFT + 24, MAX - 2)], (3, 3, 0, 0)),
-        (&[(LEFT + 16, 0)], (4, 3, 0, 0)),
-        (&[(ROOT + 16, 0)], (4, 2, 0, 0)),
-        (&[(LEFT + 16, 32)], (4, 3, 0, 0)),
-        (&[(LEFT + 16, 1 << 59)], (4, 3, 0, 0)),
-        (&[(LEFT + 16, MAX)], (4, 3, 0, 0)),
-        (&[(LEFT + 16, 31)], (5, 3, 0, 0)),
-        (&[(pos, 63)], (5, 3, 0, 0)),
-        (&[(pos, 0)], (5, 3, 0, 0)),
-        (&[(pos, 1_024 - 32 - 1)], (5, 3, 0, 0)),
-        (&[(pos, MAX)], (5, 3, 0, 0)),
-        (&[(pos, 70), (key_size, MAX - 60)], (5, 3, 0, 0)),
-        (&[(value_size, MAX - 90)], (5, 3, 0, 0)),
-        (&[(value_size, 928)], (5, 3, 0, 0)),
-        (&[(LEFT + 64, 2)], (5, 3, 1, 0)),
-        (&[(LEFT + 64, 1)], (5, 3, 1, 0)),
-        (&[(LEFT + 96, 0x61_31_62)], (6, 3, 1, 0)),
-        (&[(LEFT + 96, 0x62_31_62)], (6, 3, 1, 1)),
-        (&[(LEFT + 96, 0x62_31_62), (LEFT + 64, 2)], (5, 3, 1, 0)),
-        (&[(LEFT + 64, 2), (LEFT + 8, 9)], (3, 3, 0, 0)),
-    ];
-    for (change, fault) in cases {
+    for (change, fault) in BREACHES {
         let image = changed(change);
         judged(run, &image, (P, N), 2, 5, fault);
-        looked(run, &image, (P, N), 2, "c", fault);
+        looked_by(Lookup::Full, run, &image, (P, N, 2), "c", fault);
+        if fault.0 < 5 || (fault.0, fault.2) == (5, 1) {
+            looked_by(Lookup::Quick, run, &image, (P, N, 2), "c", fault);
+        }
     }
-    let mut whole = changed(&[(ROOT + 32, 6), (LEFT, 6), (LEFT + 24, 3), (value_size, 3_999), (FREE + 16, 0)]);
+    let mut whole = changed(&[(ROOT + 32, 6), (LEFT, 6), (LEFT + 24, 3), (VALUE_SIZE, 3_999), (FREE + 16, 0)]);
     whole.copy_within(LEFT..RIGHT, 6 * 1_024);
     let got = ask::<5>(|answer| run.subject.judge(&whole, P, N, 2, 5, answer));
     run.tally.same((got.number, got.fields), (0, [4, 7, 0, 0, 0]), || "a block up to the last page".into());
 }
 
-fn changed(change: Change) -> Vec<u8> {
+/// The sound image with these changes.
+pub fn changed(change: Change) -> Vec<u8> {
     let mut image = sound();
     change.iter().for_each(|(at, number)| put(&mut image, *at, *number));
     image
 }
 
-/// Breaches that only the judge looks for: lookup of c still finds it.
+/// Breaches that only the judge looks for: either lookup of c still finds it.
 fn ranges(run: &mut Run) {
     let cases: [(Change, Fault); 5] = [
         (&[(LEFT + 96, 0x32_32_63_31_61)], (7, 3, 0, 0)),
@@ -160,8 +176,11 @@ fn ranges(run: &mut Run) {
         judged(run, &image, (P, N), 2, 5, fault);
     }
     let image = changed(&[(LEFT + 96, 0x32_32_63_31_61), (ROOT + 56, 2)]);
-    let got = ask::<7>(|answer| run.subject.lookup(&image, P, N, 2, b"c", answer));
-    run.tally.same((got.number, got.fields), (0, [1, 0, LEFT as u64 + 99, 2, 0, 0, 0]), || "lookup of c".into());
+    for call in Lookup::BOTH {
+        let got = call.by(run.subject, &image, (P, N, 2), b"c");
+        let expected = (0, [1, 0, LEFT as u64 + 99, 2, 0, 0, 0]);
+        run.tally.same((got.number, got.fields), expected, || format!("{} of c", call.name()));
+    }
     nested_range(run);
 }
 
@@ -220,8 +239,11 @@ fn levels(run: &mut Run) {
         }
         let got = ask::<5>(|answer| run.subject.judge(&image, P, n, 2, n - 1, answer));
         run.tally.same((got.number, got.fields), (0, [1, 17, 0, 0, 0]), || "sixteen levels".into());
-        let got = ask::<7>(|answer| run.subject.lookup(&image, P, n, 2, &[5], answer));
-        run.tally.same((got.number, got.fields), (0, [1, 0, 17 * P + 65, 1, 0, 0, 0]), || "lookup at level 16".into());
+        for call in Lookup::BOTH {
+            let got = call.by(run.subject, &image, (P, n, 2), &[5]);
+            let expected = (0, [1, 0, 17 * P + 65, 1, 0, 0, 0]);
+            run.tally.same((got.number, got.fields), expected, || format!("{} at level 16", call.name()));
+        }
     }
 }
 

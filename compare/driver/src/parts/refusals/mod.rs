@@ -5,6 +5,7 @@ mod edit;
 mod image;
 mod overlap;
 mod parting;
+mod quick;
 mod table;
 
 use super::Run;
@@ -13,6 +14,7 @@ pub fn run(run: &mut Run) {
     image::run(run);
     overlap::run(run);
     parting::run(run);
+    quick::run(run);
     block::run(run);
     edit::run(run);
     table::run(run);

@@ -1,6 +1,7 @@
 //! Order 2: how many bytes two keys have in common where they are out of order, or one out of its range.
 
 use oracle::probe::{write_content, Content, Item};
+use subject::Lookup;
 
 use super::block::every_call;
 use super::Run;
@@ -91,14 +92,14 @@ fn blocks(run: &mut Run, pair: &Pair) {
     }
 }
 
-/// A leaf, or a branch, with the lower key after the other: the judge and the lookup of any key.
+/// A leaf, or a branch, with the lower key after the other: the judge and the full lookup of any key.
 fn orders(run: &mut Run, Pair { above, below, common }: &Pair) {
     for leaf in [true, false] {
         let image = image(&[(ROOT, content(leaf, if leaf { 0 } else { LEFT }, &[above, below]))]);
         let what = format!("{below:?} after {above:?}, leaf {leaf}");
         refused(run, &image, [6, ROOT, 1, *common], &what);
         for key in [b"".as_slice(), above, below, b"z"] {
-            let got = image.looked(run.subject, key);
+            let got = image.looked(Lookup::Full, run.subject, key);
             run.tally.same((got.number, got.fields), (6, [0, 0, 0, 0, ROOT, 1, *common]), || what.clone());
         }
     }
