@@ -1,4 +1,7 @@
 // The answer buffer of a C function: u64 fields, one after the other from byte 0 on.
+
+#![tactic(auto)]
+
 ghost use Rattle.std.specs.Prelude.{◌≡◌, ◌*◌, ◌≤◌, length};
 ghost use Rattle.field.specs.Run.{put_at};
 ghost use Rattle.answer.specs.Answer.{fields, number_with, answer_with};

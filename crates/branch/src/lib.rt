@@ -1,4 +1,7 @@
 // The insertion in a branch: of an entry in place of the one with an original key, or of one more.
+
+#![tactic(auto)]
+
 ghost use Rattle.std.specs.Prelude.{◌≡◌, true, false, [], ◌<◌};
 ghost use Rattle.page.specs.declared.rules.Verdict.TheVariants.{Sound};
 ghost use Rattle.page.specs.Layout.{id_of, count_of, is_leaf, entries_of};

@@ -1,4 +1,7 @@
 // A cursor over the entries of a tree, in key order.
+
+#![tactic(auto)]
+
 pub mod beside;
 pub mod follow;
 pub mod outer;

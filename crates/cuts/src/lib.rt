@@ -1,4 +1,7 @@
 // Where a block's node is cut.
+
+#![tactic(auto)]
+
 ghost use Rattle.std.specs.Prelude.{◌≡◌, true, ◌+◌, ◌≤◌, min, length};
 ghost use Rattle.field.specs.Sizes.{size_allowed};
 ghost use Rattle.field.specs.Run.{put_at};

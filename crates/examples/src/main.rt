@@ -1,4 +1,7 @@
 // Prints 01's page of two entries byte for byte, then what each call on a single block answers to good and bad arguments.
+
+#![tactic(auto)]
+
 mod branches;
 mod calls;
 mod show;

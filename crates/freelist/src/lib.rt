@@ -1,4 +1,7 @@
 // The freelist over a table that the caller lends: each page below 32,768 is in use, free, or pending under a transaction's number.
+
+#![tactic(auto)]
+
 ghost use Rattle.std.specs.Prelude.{◌≡◌};
 ghost use Rattle.freelist.specs.Answers.{onDone, answer_of, answerNumber, allocatedNumber, listedNumber};
 ghost use Rattle.freelist.specs.Freelist.{fault_of, new_number, new_table, init_number, init_table, free_number, free_table, release_table, allocate_answer, allocate_table, pages_answer, pages_list, size_answer};

@@ -1,4 +1,7 @@
 // The judge: the walk of a tree, then the freelist page.
+
+#![tactic(auto)]
+
 mod freelist;
 mod pages;
 mod range;

@@ -1,4 +1,7 @@
 // The lookup of a key from a root.
+
+#![tactic(auto)]
+
 pub mod descent;
 
 ghost use Rattle.std.specs.Prelude.{◌≡◌};

@@ -1,4 +1,7 @@
 // The meta of a page (meta.rs): hashed, read and written.
+
+#![tactic(auto)]
+
 pub mod fnv;
 
 ghost use Rattle.std.specs.Prelude.{◌≡◌, ◌≤◌, length};

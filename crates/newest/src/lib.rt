@@ -1,4 +1,7 @@
 // The newest meta of an image (db.rs): with the page size given or found, the newer of the two meta pages that count.
+
+#![tactic(auto)]
+
 ghost use Rattle.std.specs.Prelude.{◌≡◌, drop};
 ghost use Rattle.meta.specs.Meta.{read_of};
 ghost use Rattle.newest.specs.Newest.{counts, newer as newerOf, newest_at, own_size, names_itself, lowest_size, size_found, no_size, newest_of};

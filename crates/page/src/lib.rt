@@ -1,4 +1,7 @@
 // Pages: where the numbers of a block stand, the rules that a sound block keeps, and the search in one.
+
+#![tactic(auto)]
+
 mod branch_pass;
 pub mod layout;
 mod leaf_pass;

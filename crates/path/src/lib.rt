@@ -1,5 +1,8 @@
 // A cursor's path through a tree of pages, over pages as they are viewed: its types, definitions in specs/ and theorems in proofs/, and no code.
 // Which way a cursor moves: to the entry after its own, or to the one before.
+
+#![tactic(auto)]
+
 #[derive(Drop)]
 pub enum Direction {
     Onward,

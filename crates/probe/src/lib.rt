@@ -1,4 +1,7 @@
 // The calls that are not the shard server's, as C functions over numbers and slices, for the comparison and tests only.
+
+#![tactic(auto)]
+
 pub mod edits;
 pub mod free;
 pub mod metas;

@@ -1,4 +1,7 @@
 // Login's lookup: of each page it looks at the header, and at the elements that halving comes by.
+
+#![tactic(auto)]
+
 mod branch_halving;
 mod glance;
 pub mod halving;

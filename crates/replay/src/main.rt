@@ -1,5 +1,8 @@
 // Replays the recorded answers of jammdb 0.11.0 that standard input holds: makes each call, and compares its number, its fields and every byte
 // of its output with what is recorded.
+
+#![tactic(auto)]
+
 mod calls;
 mod lists;
 mod record;

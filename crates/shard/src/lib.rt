@@ -1,4 +1,7 @@
 // The four calls of the shard server, as C functions over numbers and byte slices.
+
+#![tactic(auto)]
+
 ghost use Rattle.std.specs.Prelude.{◌≡◌};
 ghost use Rattle.lookup.specs.Lookup.{lookup_of};
 ghost use Rattle.quick.specs.Quick.{quick_of};

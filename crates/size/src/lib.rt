@@ -1,4 +1,7 @@
 // Node sizes: of one entry, and of a whole block.
+
+#![tactic(auto)]
+
 ghost use Rattle.std.specs.Prelude.{◌≡◌, true, ◌+◌, ◌<◌, ◌≤◌};
 ghost use Rattle.page.specs.Layout.{count_of, entry_of, entries_of};
 ghost use Rattle.page.specs.PageRules.{SoundBlock};

@@ -1,4 +1,7 @@
 // The pieces of a split, each written as a packed block into its own stretch of the output.
+
+#![tactic(auto)]
+
 ghost use Rattle.std.specs.Prelude.{◌≡◌, true, ◌+◌, ◌<◌, ◌≤◌, min, leb, length};
 ghost use Rattle.field.specs.Sizes.{size_allowed, count_allowed, block_inside};
 ghost use Rattle.field.specs.Run.{put_at};

@@ -1,4 +1,7 @@
 // Prints the published vectors of FNV-1a at 64 bits, and what reading and writing a meta page answers.
+
+#![tactic(auto)]
+
 use field::number::byte_at;
 use meta::fnv::fnv1a;
 use meta::{Meta, MetaRead, MetaWritten, read_meta, write_meta};

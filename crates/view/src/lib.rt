@@ -1,4 +1,7 @@
 // A page of an image as the walk and the lookup view it, and what both answer with.
+
+#![tactic(auto)]
+
 pub mod image;
 
 // The most levels that a tree has.

@@ -1,0 +1,11 @@
+-- `field::number::u32_at` meets its contract: a number in a part of the bytes. Assumes nothing.
+use Prim.Native.Nat.{◌+◌, ◌-◌}
+use mathlib.Core.Path.{◌∙◌}
+use native.Mathlib.Omega.{arith}
+use Rattle.field.proofs.FieldLaws.{field_part}
+use Rattle.field.proofs.number.u32_at.Goals as goal
+
+pub returns : goal.returns
+returns c =
+    let a = c.args in
+    c.four.ensures.0 ∙ field_part 4 a.s.now a.at (a.at + 4 - a.at) (omega arith)
