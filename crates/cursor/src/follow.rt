@@ -12,7 +12,7 @@ use path::Cursor;
 use view::Fault;
 
 // Whether a path stands in the tree, or the first refusal on the way.
-#[derive(Drop)]
+#[derive(Clone, Copy)]
 pub enum Followed {
     Stands,
     Refused(Fault),

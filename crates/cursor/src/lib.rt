@@ -16,7 +16,7 @@ use path::Cursor;
 use view::Fault;
 
 // An entry: its kind, and where in the image its key and its value lie, the key from `key` to `value` and the value from `value` to `end`.
-#[derive(Drop)]
+#[derive(Clone, Copy)]
 pub struct Entry {
     pub kind: u8,
     pub key: usize,
@@ -25,7 +25,7 @@ pub struct Entry {
 }
 
 // What a move of a cursor comes to: an entry, no entry, or a refusal.
-#[derive(Drop)]
+#[derive(Clone, Copy)]
 pub enum Stand {
     At(Entry),
     End,
@@ -33,7 +33,7 @@ pub enum Stand {
 }
 
 // What a call answers: what it came to, and the cursor there.
-#[derive(Drop)]
+#[derive(Clone, Copy)]
 pub struct Moved {
     pub cursor: Cursor,
     pub stand: Stand,

@@ -16,7 +16,7 @@ use page::search::leaf_at;
 use view::image::{block, from_page, inside};
 
 // A breach with its element and the length of a common beginning, or a branch or a leaf with so many elements.
-#[derive(Drop)]
+#[derive(Clone, Copy)]
 pub enum Sight {
     Bad(u64, usize, usize),
     Branch(usize),

@@ -21,7 +21,7 @@ use size::{NODE_HEADER, NODE_LIMIT, entry_size, node_size};
 const MIN_KEYS_PER_NODE: usize = 2;
 
 // What `split` answers: how many cuts it wrote, or a refusal with 01's number, the element and the length of a common beginning.
-#[derive(Drop)]
+#[derive(Clone, Copy)]
 pub enum Parted {
     Cuts(usize),
     Refused(u64, usize, usize),

@@ -4,7 +4,7 @@ ghost use Rattle.field.specs.Order.{order_of, common_of, parting_of, is_lower};
 
 use super::number::big_u64_at;
 
-#[derive(Drop)]
+#[derive(Clone, Copy)]
 pub enum Order {
     Lower,
     Equal,
@@ -12,7 +12,7 @@ pub enum Order {
 }
 
 // How two keys stand to each other: their order, and the length of their common beginning.
-#[derive(Drop)]
+#[derive(Clone, Copy)]
 pub struct Parting {
     pub order: Order,
     pub common: usize,

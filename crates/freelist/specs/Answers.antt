@@ -12,15 +12,15 @@ use Rattle.freelist.specs.declared.Measured.TheVariants as measured
 
 -- ---- numbers
 
-infix 25 ◌orElse◌
-infixr 20 ◌andThen◌
+infix 25 ◌or_else◌
+infixr 20 ◌and_then◌
 -- 0 where the test holds, and else the number
-abbrev pub ◌orElse◌ : Bool → ℕ → ℕ
+abbrev pub ◌or_else◌ : Bool → ℕ → ℕ
 true or_else c = 0
 false or_else c = c
 
 -- the first number, and where that is 0 the second
-abbrev pub ◌andThen◌ : ℕ → ℕ → ℕ
+abbrev pub ◌and_then◌ : ℕ → ℕ → ℕ
 zero and_then d = d
 suc c and_then d = suc c
 

@@ -10,7 +10,7 @@ use Rattle.freelist.specs.declared.table.State.{State}
 use Rattle.freelist.specs.declared.table.State.TheVariants.{InUse, Free, Pending, Broken}
 use Rattle.freelist.specs.Table.{state_of, is_state, is_in_use, is_free, is_listed}
 use Rattle.freelist.specs.Pages.{pages_from, pages_of, all, first, keep, rising, each}
-use Rattle.freelist.specs.Answers.{◌orElse◌, ◌andThen◌, allocatedOf, listed_of, measuredOf}
+use Rattle.freelist.specs.Answers.{◌or_else◌, ◌and_then◌, allocatedOf, listed_of, measuredOf}
 
 -- ---- sizes allowed
 

@@ -25,28 +25,28 @@ const HEADER_SIZE: u64 = 40;
 const PAGE_ID_SIZE: u64 = 8;
 
 // What `new`, `init`, `free` and `release` answer.
-#[derive(Drop)]
+#[derive(Clone, Copy)]
 pub enum Answer {
     Done,
     Refused(u64),
 }
 
 // What `allocate` answers: the first page handed out, and the count of pages from then on.
-#[derive(Drop)]
+#[derive(Clone, Copy)]
 pub enum Allocated {
     At(u64, u64),
     Refused(u64),
 }
 
 // What `pages` answers: how many ids were written.
-#[derive(Drop)]
+#[derive(Clone, Copy)]
 pub enum Listed {
     Count(u64),
     Refused(u64),
 }
 
 // What `size` answers.
-#[derive(Drop)]
+#[derive(Clone, Copy)]
 pub enum Measured {
     Bytes(u64),
     Refused(u64),

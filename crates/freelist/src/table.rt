@@ -18,7 +18,7 @@ pub const PENDING_WORDS: usize = 512;
 const NUMBERS: u64 = 1024;
 
 // A page's state. A page with both bits is in none of the three, which is `Broken`.
-#[derive(Drop)]
+#[derive(Clone, Copy)]
 pub enum State {
     InUse,
     Free,

@@ -27,14 +27,14 @@ use view::image::{block, from_page, geometry_bad, inside};
 use view::{Fault, LEVELS};
 
 // What the judge answers: the leaf entries and the pages reached, or the first breach.
-#[derive(Drop)]
+#[derive(Clone, Copy)]
 pub enum Judged {
     Sound(usize, usize),
     Refused(Fault),
 }
 
 // How the walk of a subtree ended: with the number of its leaf entries, or with a breach.
-#[derive(Drop)]
+#[derive(Clone, Copy)]
 pub enum Outcome {
     Passed(usize),
     Broken(Fault),

@@ -14,7 +14,7 @@ use page::rules::check;
 use view::image::block;
 
 // The verdict on a page: the number of a branch's children or of a leaf's entries, or a breach with the page and element that it names and the length of a common beginning.
-#[derive(Drop)]
+#[derive(Clone, Copy)]
 pub enum Page {
     Branch(usize),
     Leaf(usize),
@@ -22,7 +22,7 @@ pub enum Page {
 }
 
 // How a key stands to its range: in it, or out of it, with the length of the common beginning of it and the end that it crosses.
-#[derive(Drop)]
+#[derive(Clone, Copy)]
 pub enum Ranged {
     In,
     Out(usize),

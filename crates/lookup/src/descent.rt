@@ -15,7 +15,7 @@ use view::Value;
 use view::image::{block, from_page};
 
 // What a page says of a key: the child to go to, the entry, that there is none, or a breach with its element and the length of a common beginning.
-#[derive(Drop)]
+#[derive(Clone, Copy)]
 pub enum Step {
     Down(usize),
     Found(Value),

@@ -13,7 +13,7 @@ use view::image::{geometry_bad, inside};
 use view::{Fault, LEVELS, Value};
 
 // What lookup answers.
-#[derive(Drop)]
+#[derive(Clone, Copy)]
 pub enum Looked {
     Found(Value),
     Absent,

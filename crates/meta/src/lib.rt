@@ -41,7 +41,7 @@ const HASH: usize = 96;
 const META_END: usize = 104;
 
 // The fields of a meta, in their order in the page.
-#[derive(Drop)]
+#[derive(Clone, Copy)]
 pub struct Meta {
     pub meta_page: u32,
     pub magic: u32,
@@ -56,14 +56,14 @@ pub struct Meta {
 }
 
 // The meta with its hash, or the number that refuses the page.
-#[derive(Drop)]
+#[derive(Clone, Copy)]
 pub enum MetaRead {
     Read(Meta),
     Refused(u64),
 }
 
 // The hash that was written, or the number that refuses the page.
-#[derive(Drop)]
+#[derive(Clone, Copy)]
 pub enum MetaWritten {
     Written(u64),
     Refused(u64),

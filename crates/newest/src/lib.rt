@@ -17,7 +17,7 @@ const SIZE_STEP: usize = 8;
 const SIZES: usize = 8065;
 
 // The page that the newest meta was taken from, 0 or 1, and the meta; or the number that refuses the image.
-#[derive(Drop)]
+#[derive(Clone, Copy)]
 pub enum Newest {
     Taken(usize, Meta),
     Refused(u64),

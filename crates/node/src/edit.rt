@@ -16,14 +16,14 @@ use page::rules::{kind_bad, lent_check};
 use page::search::{Leaf, leaf_at};
 
 // What an edit answers: the bytes of the block written; a refusal has 01's number, the element and the length of a common beginning.
-#[derive(Drop)]
+#[derive(Clone, Copy)]
 pub enum Edited {
     Written(usize),
     Refused(u64, usize, usize),
 }
 
 // What `delete` answers: the bytes of the block written, and where what was removed lies in the lent block.
-#[derive(Drop)]
+#[derive(Clone, Copy)]
 pub enum Deleted {
     Removed(usize, Leaf),
     Refused(u64, usize, usize),

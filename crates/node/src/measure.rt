@@ -9,14 +9,14 @@ use page::rules::lent_check;
 use size::{NODE_LIMIT, node_size};
 
 // What `size` answers: the node size and the pages needed; a refusal has 01's number, the element and the length of a common beginning.
-#[derive(Drop)]
+#[derive(Clone, Copy)]
 pub enum Measure {
     Bytes(usize, usize),
     Refused(u64, usize, usize),
 }
 
 // What `needs_merging` answers.
-#[derive(Drop)]
+#[derive(Clone, Copy)]
 pub enum Merging {
     Wanted(bool),
     Refused(u64, usize, usize),

@@ -14,7 +14,7 @@ use field::run::{clear, copy};
 use page::layout::{HEADER_SIZE, TYPE_BRANCH, TYPE_LEAF, key, key_at};
 
 // Which entries a new block has: those of a source block from `first` to `stop`, a new one with `tag` if `some`, and those from `resume` to `last`.
-#[derive(Drop)]
+#[derive(Clone, Copy)]
 pub struct Plan {
     pub first: usize,
     pub stop: usize,

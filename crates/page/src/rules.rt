@@ -15,7 +15,7 @@ use field::order::{compare, is_lower};
 use field::sizes::size_allowed;
 
 // What a check answers: a breach has 01's number, the element's index and the length of the common beginning, 0 where there is none.
-#[derive(Drop)]
+#[derive(Clone, Copy)]
 pub enum Verdict {
     Sound,
     Breach(u64, usize, usize),

@@ -9,28 +9,28 @@ use super::rules::{Verdict, lent_check};
 use field::Order;
 
 // Where a key is, or the place before the one where it would be put.
-#[derive(Drop)]
+#[derive(Clone, Copy)]
 pub struct Place {
     pub at: usize,
     pub found: bool,
 }
 
 // What `index` answers; a refusal has 01's number, the element and the length of the common beginning.
-#[derive(Drop)]
+#[derive(Clone, Copy)]
 pub enum Indexed {
     At(Place),
     Refused(u64, usize, usize),
 }
 
 // What `index_page` answers.
-#[derive(Drop)]
+#[derive(Clone, Copy)]
 pub enum Child {
     Page(usize),
     Refused(u64, usize, usize),
 }
 
 // A leaf's entry: its kind, its key from `key` to `value`, and its value from `value` to `end`.
-#[derive(Drop)]
+#[derive(Clone, Copy)]
 pub struct Leaf {
     pub kind: u8,
     pub key: usize,
@@ -39,7 +39,7 @@ pub struct Leaf {
 }
 
 // What `entry` answers.
-#[derive(Drop)]
+#[derive(Clone, Copy)]
 pub enum Held {
     Here(Leaf),
     Nothing,

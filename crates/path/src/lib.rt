@@ -3,14 +3,14 @@
 
 #![tactic(auto)]
 
-#[derive(Drop)]
+#[derive(Clone, Copy)]
 pub enum Direction {
     Onward,
     Back,
 }
 
 // An element of a page.
-#[derive(Drop)]
+#[derive(Clone, Copy)]
 pub struct Step {
     pub page: usize,
     pub index: usize,

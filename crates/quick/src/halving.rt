@@ -3,7 +3,7 @@ ghost use Rattle.std.specs.Prelude.{◌≡◌, ◌-◌};
 ghost use Rattle.quick.specs.declared.halving.Halved.TheVariants.{Place};
 
 // The element with the key, the place where there is none, or an element that breaks rule 6.
-#[derive(Drop)]
+#[derive(Clone, Copy)]
 pub enum Halved {
     Found(usize),
     Place(usize),

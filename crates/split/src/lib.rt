@@ -27,7 +27,7 @@ const PAGES_PAST: usize = 32769;
 const BYTES_PAST: usize = 2147483649;
 
 // What `split_write` answers: how many bytes and pieces it wrote, or a refusal with 01's number, the element and the length of a common beginning.
-#[derive(Drop)]
+#[derive(Clone, Copy)]
 pub enum Written {
     Pieces(usize, usize),
     Refused(u64, usize, usize),

@@ -8,7 +8,7 @@ pub mod image;
 pub const LEVELS: usize = 16;
 
 // A refusal: 01's number, the page and element that it names, and the length of the common beginning of the two keys that it speaks of; 0 where there is none.
-#[derive(Drop)]
+#[derive(Clone, Copy)]
 pub struct Fault {
     pub number: u64,
     pub page: usize,
@@ -17,7 +17,7 @@ pub struct Fault {
 }
 
 // An entry's kind, and the place in the image and the length of its value.
-#[derive(Drop)]
+#[derive(Clone, Copy)]
 pub struct Value {
     pub kind: u8,
     pub place: usize,
