@@ -8,7 +8,7 @@ use Rattle.page.specs.Numbers.{indexed_fields}
 use Rattle.pack.specs.Pack.{node_size, pack}
 use Rattle.pack.specs.Plan.{entry_with}
 use Rattle.cuts.specs.Split.{pieces_of}
-use Rattle.freelist.specs.Answers.{allocatedFields}
+use Rattle.freelist.specs.Answers.{allocated_fields}
 use Rattle.freelist.specs.Freelist.{new_table, allocate_answer}
 
 -- a check: what is asked of a definition, and what 01 says of it, as numbers
@@ -44,7 +44,7 @@ table_with word = word ∷ replicate 33791 0
 
 -- so many pages asked of a table with N pages
 abbrev allocate : List ℕ → ℕ → ℕ → List ℕ
-allocate table N pages = allocatedFields (allocate_answer table N 1024 (1024 * pages))
+allocate table N pages = allocated_fields (allocate_answer table N 1024 (1024 * pages))
 
 -- 2, 3, 7, 8, 9 and 11 are free
 abbrev pub some_free : List ℕ

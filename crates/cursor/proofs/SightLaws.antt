@@ -50,16 +50,16 @@ branch_sight b n e = ap Branch (e ∙ sym (length_row (child_item b) (count_of b
 
 -- ---- an entry
 -- a sound leaf's keys have the length that their element says
-pub key_length : (emptyOk : Bool) (b : List ℕ) (i : ℕ) → SoundBlock true emptyOk b → i < count_of b → length (key_of true b i) ≡ key_size true b i
+pub key_length : (empty_ok : Bool) (b : List ℕ) (i : ℕ) → SoundBlock true empty_ok b → i < count_of b → length (key_of true b i) ≡ key_size true b i
 unfolding key_of
-key_length emptyOk b i sound l =
+key_length empty_ok b i sound l =
     let w = sound.within i l in
     length-take-le (key_size true b i) (drop (key_at true b i) b) (rw length-drop (omega arith))
 
 -- where it lies, from the block's start counted
-pub entry_told : (emptyOk : Bool) (start : ℕ) (b : List ℕ) (i : ℕ) (x : Held) → SoundBlock true emptyOk b → i < count_of b → x ≡ leaf_of b i
+pub entry_told : (empty_ok : Bool) (start : ℕ) (b : List ℕ) (i : ℕ) (x : Held) → SoundBlock true empty_ok b → i < count_of b → x ≡ leaf_of b i
     → ◌≡◌ {A = Entry} (record { kind = x.kind; key = start + x.key; value = start + x.value; end = start + x.end }) (entry_of (value_item start b i))
-entry_told emptyOk start b i x sound l e =
-    let k : start + key_at true b i ≡ start + value_at true b i - length (key_of true b i) = (let n = key_length emptyOk b i sound l in omega arith) in
+entry_told empty_ok start b i x sound l e =
+    let k : start + key_at true b i ≡ start + value_at true b i - length (key_of true b i) = (let n = key_length empty_ok b i sound l in omega arith) in
     let v : start + value_end true b i ≡ start + value_at true b i + value_size true b i = omega arith in
     rw (e, sym k, v)

@@ -9,19 +9,19 @@ use Rattle.freelist.specs.declared.Answer.TheVariants as answer
 use Rattle.freelist.specs.declared.Allocated.TheVariants as allocated
 use Rattle.freelist.specs.declared.Listed.TheVariants as listed
 use Rattle.freelist.specs.declared.Measured.TheVariants as measured
-use Rattle.freelist.specs.Answers.{◌orElse◌, ◌andThen◌, onDone, answer_of, answerNumber, allocatedOf, allocatedNumber, listed_of, listedNumber, measuredOf}
+use Rattle.freelist.specs.Answers.{◌or_else◌, ◌and_then◌, on_done, answer_of, answer_number, allocated_of, allocated_number, listed_of, listed_number, measured_of}
 
 -- ---- the number of an answer is the one that it was made for
 
-pub number_of_answer : (c : ℕ) → answerNumber (answer_of c) ≡ c
+pub number_of_answer : (c : ℕ) → answer_number (answer_of c) ≡ c
 number_of_answer zero = refl
 number_of_answer (suc c) = refl
 
-pub number_of_allocated : (c s m : ℕ) → allocatedNumber (allocatedOf c s m) ≡ c
+pub number_of_allocated : (c s m : ℕ) → allocated_number (allocated_of c s m) ≡ c
 number_of_allocated zero s m = refl
 number_of_allocated (suc c) s m = refl
 
-pub number_of_listed : (c k : ℕ) → listedNumber (listed_of c k) ≡ c
+pub number_of_listed : (c k : ℕ) → listed_number (listed_of c k) ≡ c
 number_of_listed zero k = refl
 number_of_listed (suc c) k = refl
 
@@ -58,10 +58,10 @@ module _ (b c : ℕ) (e : b ≡ c) where
   pub done : b ≡ 0 → answer.Done ≡ answer_of c
   done z = ap answer_of (sym z ∙ e)
 
-  pub refused_allocated : (s m : ℕ) → (b ≡ 0 → ⊥) → allocated.Refused b ≡ allocatedOf c s m
+  pub refused_allocated : (s m : ℕ) → (b ≡ 0 → ⊥) → allocated.Refused b ≡ allocated_of c s m
   refused_allocated s m n = go c e
     where
-      go : (x : ℕ) → b ≡ x → allocated.Refused b ≡ allocatedOf x s m
+      go : (x : ℕ) → b ≡ x → allocated.Refused b ≡ allocated_of x s m
       go zero e = absurd (n e)
       go (suc x) e = ap allocated.Refused e
 
@@ -72,14 +72,14 @@ module _ (b c : ℕ) (e : b ≡ c) where
       go zero e = absurd (n e)
       go (suc x) e = ap listed.Refused e
 
-  pub refused_measured : (k : ℕ) → (b ≡ 0 → ⊥) → measured.Refused b ≡ measuredOf c k
+  pub refused_measured : (k : ℕ) → (b ≡ 0 → ⊥) → measured.Refused b ≡ measured_of c k
   refused_measured k n = go c e
     where
-      go : (x : ℕ) → b ≡ x → measured.Refused b ≡ measuredOf x k
+      go : (x : ℕ) → b ≡ x → measured.Refused b ≡ measured_of x k
       go zero e = absurd (n e)
       go (suc x) e = ap measured.Refused e
 
 -- what is lent stays
-pub kept : (b : ℕ) (new old : List ℕ) → (b ≡ 0 → ⊥) → old ≡ onDone b new old
+pub kept : (b : ℕ) (new old : List ℕ) → (b ≡ 0 → ⊥) → old ≡ on_done b new old
 kept zero new old n = absurd (n refl)
 kept (suc b) new old n = refl

@@ -13,7 +13,7 @@ use Rattle.freelist.specs.declared.table.State.{State}
 use Rattle.freelist.specs.declared.table.State.TheVariants.{InUse, Free, Pending, Broken}
 use Rattle.freelist.specs.Table.{state_of, is_state, is_in_use}
 use Rattle.freelist.specs.Pages.{◌∈◌, all, rising}
-use Rattle.freelist.specs.Answers.{◌orElse◌, ◌andThen◌}
+use Rattle.freelist.specs.Answers.{◌or_else◌, ◌and_then◌}
 use Rattle.freelist.specs.Freelist.{fault_of, initial, init_number, block_allowed, free_number, request_fault}
 use Rattle.freelist.proofs.PageLaws.{clash, all_of, all_row_of, all_row_at}
 use Rattle.freelist.proofs.AnswerLaws.{held, both_zero}

@@ -11,7 +11,7 @@ use lib.Dec.{leb}
 use lib.ListN.{length}
 use Rattle.freelist.specs.Table.{state_of, is_state}
 use Rattle.freelist.specs.Pages.{all, pages_of}
-use Rattle.freelist.specs.Answers.{◌orElse◌}
+use Rattle.freelist.specs.Answers.{◌or_else◌}
 use Rattle.freelist.specs.Freelist.{has_room, fault_of}
 use Rattle.freelist.proofs.AnswerLaws.{held, both_zero}
 use Rattle.freelist.proofs.PageLaws.{and_parts, all_row_of, all_row_at}

@@ -15,7 +15,7 @@ use Rattle.freelist.specs.declared.table.State.TheVariants.{InUse, Free}
 use Rattle.freelist.specs.declared.Allocated.TheVariants.{At, Refused}
 use Rattle.freelist.specs.Table.{state_of, is_state}
 use Rattle.freelist.specs.Pages.{◌∈◌, pages_from, pages_of, all, each}
-use Rattle.freelist.specs.Answers.{◌orElse◌, ◌andThen◌}
+use Rattle.freelist.specs.Answers.{◌or_else◌, ◌and_then◌}
 use Rattle.freelist.specs.Freelist.{has_room, fault_of, request_fault, FreeRun, lowest, count_after, allocate_number, allocate_answer, allocate_table}
 use Rattle.freelist.proofs.PageLaws.{in_row, row_in, rising_row}
 use Rattle.freelist.proofs.EachLaws.{each_in, each_out}

@@ -11,7 +11,7 @@ use Rattle.freelist.specs.declared.Listed.TheVariants as listed
 use Rattle.freelist.specs.declared.Measured.TheVariants.{Bytes}
 use Rattle.freelist.specs.Table.{state_of, is_listed}
 use Rattle.freelist.specs.Pages.{◌∈◌, pages_of, rising}
-use Rattle.freelist.specs.Answers.{listed_of, measuredOf}
+use Rattle.freelist.specs.Answers.{listed_of, measured_of}
 use Rattle.freelist.specs.Freelist.{fault_of, listing, pages_number, listing_size}
 use Rattle.freelist.proofs.PageLaws.{in_row, row_in, rising_row, rising_at, rising_keep, keep_iff}
 use Rattle.freelist.proofs.AnswerLaws.{both_zero}
@@ -45,14 +45,14 @@ module _ (t : List ℕ) (n : ℕ) where
 
   -- where `pages` writes k ids, `size` answers 40 plus 8 for each
   pub size_of_listing : (ids : List ℕ) (k : ℕ) → listed_of (pages_number t n ids) (length (listing t n)) ≡ listed.Count k
-      → measuredOf (fault_of t n) (listing_size t n) ≡ Bytes (40 + 8 * k)
+      → measured_of (fault_of t n) (listing_size t n) ≡ Bytes (40 + 8 * k)
   unfolding pages_number listing_size
   size_of_listing ids k e = go (pages_number t n ids) refl
     where
-      go : (c : ℕ) → pages_number t n ids ≡ c → measuredOf (fault_of t n) (listing_size t n) ≡ Bytes (40 + 8 * k)
+      go : (c : ℕ) → pages_number t n ids ≡ c → measured_of (fault_of t n) (listing_size t n) ≡ Bytes (40 + 8 * k)
       go (suc c) f = absurd (let h : listed.Refused (suc c) ≡ listed.Count k = rw f at e in let o : ◌≡◌ {A = ℕ} 0 1 = cc in omega arith)
       go zero f =
           let h : listed.Count (length (listing t n)) ≡ listed.Count k = rw f at e in
           let l : length (listing t n) ≡ k = cc in
           let z = (both_zero (fault_of t n) _ f).0 in
-          ap (λ (b : ℕ). measuredOf b (40 + 8 * length (listing t n))) z ∙ ap (λ (x : ℕ). Bytes (40 + 8 * x)) l
+          ap (λ (b : ℕ). measured_of b (40 + 8 * length (listing t n))) z ∙ ap (λ (x : ℕ). Bytes (40 + 8 * x)) l

@@ -12,7 +12,7 @@ use lib.ListN.{length}
 use Rattle.freelist.specs.Table.{state_of, is_in_use}
 use Rattle.freelist.specs.Pages.{◌∈◌, pages_from, all, rising}
 use Rattle.freelist.specs.declared.Listed.TheVariants.{Count}
-use Rattle.freelist.specs.Answers.{◌orElse◌, ◌andThen◌, listed_of}
+use Rattle.freelist.specs.Answers.{◌or_else◌, ◌and_then◌, listed_of}
 use Rattle.freelist.specs.Freelist.{has_room, fault_of, new_number, initial, init_number, block_allowed, free_number, request_fault, listing, pages_number}
 use Rattle.freelist.proofs.PageLaws.{and_parts, all-at}
 use Rattle.freelist.proofs.AnswerLaws.{held, both_zero, first_number, next_number}

@@ -25,9 +25,9 @@ zero and_then d = d
 suc c and_then d = suc c
 
 -- what is lent is changed where the number is 0, and stays otherwise
-abbrev pub onDone : ℕ → List ℕ → List ℕ → List ℕ
-onDone zero new old = new
-onDone (suc c) new old = old
+abbrev pub on_done : ℕ → List ℕ → List ℕ → List ℕ
+on_done zero new old = new
+on_done (suc c) new old = old
 
 -- ---- `new`, `init`, `free` and `release`
 
@@ -37,26 +37,26 @@ answer_of zero = answer.Done
 answer_of (suc c) = answer.Refused (suc c)
 
 -- the number of an answer
-abbrev pub answerNumber : Answer → ℕ
-answerNumber answer.Done = 0
-answerNumber (answer.Refused c) = c
+abbrev pub answer_number : Answer → ℕ
+answer_number answer.Done = 0
+answer_number (answer.Refused c) = c
 
 -- ---- `allocate`
 
 -- what is answered for a number, the first page handed out and the count of pages from then on
-abbrev pub allocatedOf : ℕ → ℕ → ℕ → Allocated
-allocatedOf zero s m = allocated.At s m
-allocatedOf (suc c) s m = allocated.Refused (suc c)
+abbrev pub allocated_of : ℕ → ℕ → ℕ → Allocated
+allocated_of zero s m = allocated.At s m
+allocated_of (suc c) s m = allocated.Refused (suc c)
 
 -- the number of that answer
-abbrev pub allocatedNumber : Allocated → ℕ
-allocatedNumber (allocated.At s m) = 0
-allocatedNumber (allocated.Refused c) = c
+abbrev pub allocated_number : Allocated → ℕ
+allocated_number (allocated.At s m) = 0
+allocated_number (allocated.Refused c) = c
 
 -- the number, the first page handed out and the count of pages from then on
-abbrev pub allocatedFields : Allocated → List ℕ
-allocatedFields (allocated.At s m) = 0 ∷ s ∷ m ∷ []
-allocatedFields (allocated.Refused c) = c ∷ 0 ∷ 0 ∷ []
+abbrev pub allocated_fields : Allocated → List ℕ
+allocated_fields (allocated.At s m) = 0 ∷ s ∷ m ∷ []
+allocated_fields (allocated.Refused c) = c ∷ 0 ∷ 0 ∷ []
 
 -- ---- `pages`
 
@@ -66,23 +66,23 @@ listed_of zero k = listed.Count k
 listed_of (suc c) k = listed.Refused (suc c)
 
 -- the number of that answer
-abbrev pub listedNumber : Listed → ℕ
-listedNumber (listed.Count k) = 0
-listedNumber (listed.Refused c) = c
+abbrev pub listed_number : Listed → ℕ
+listed_number (listed.Count k) = 0
+listed_number (listed.Refused c) = c
 
 -- the number, and how many ids were written
-abbrev pub listedFields : Listed → List ℕ
-listedFields (listed.Count k) = 0 ∷ k ∷ []
-listedFields (listed.Refused c) = c ∷ 0 ∷ []
+abbrev pub listed_fields : Listed → List ℕ
+listed_fields (listed.Count k) = 0 ∷ k ∷ []
+listed_fields (listed.Refused c) = c ∷ 0 ∷ []
 
 -- ---- `size`
 
 -- what is answered for a number and a size in bytes
-abbrev pub measuredOf : ℕ → ℕ → Measured
-measuredOf zero k = measured.Bytes k
-measuredOf (suc c) k = measured.Refused (suc c)
+abbrev pub measured_of : ℕ → ℕ → Measured
+measured_of zero k = measured.Bytes k
+measured_of (suc c) k = measured.Refused (suc c)
 
 -- the number, and the size in bytes
-abbrev pub measuredFields : Measured → List ℕ
-measuredFields (measured.Bytes k) = 0 ∷ k ∷ []
-measuredFields (measured.Refused c) = c ∷ 0 ∷ []
+abbrev pub measured_fields : Measured → List ℕ
+measured_fields (measured.Bytes k) = 0 ∷ k ∷ []
+measured_fields (measured.Refused c) = c ∷ 0 ∷ []

@@ -10,7 +10,7 @@ use Rattle.freelist.specs.declared.table.State.{State}
 use Rattle.freelist.specs.declared.table.State.TheVariants.{InUse, Free, Pending, Broken}
 use Rattle.freelist.specs.Table.{state_of, is_state, is_in_use, is_free, is_listed}
 use Rattle.freelist.specs.Pages.{pages_from, pages_of, all, first, keep, rising, each}
-use Rattle.freelist.specs.Answers.{◌or_else◌, ◌and_then◌, allocatedOf, listed_of, measuredOf}
+use Rattle.freelist.specs.Answers.{◌or_else◌, ◌and_then◌, allocated_of, listed_of, measured_of}
 
 -- ---- sizes allowed
 
@@ -102,7 +102,7 @@ allocate_number t n size bytes = request_fault t n size bytes and_then leb (coun
 -- the pages handed out start at the lowest run, and with no such run at n
 unfoldable pub allocate_answer : List ℕ → ℕ → ℕ → ℕ → Allocated
 allocate_answer t n size bytes =
-    allocatedOf (allocate_number t n size bytes) (lowest t n (pages_needed bytes size)) (count_after t n (pages_needed bytes size))
+    allocated_of (allocate_number t n size bytes) (lowest t n (pages_needed bytes size)) (count_after t n (pages_needed bytes size))
 
 -- they become in use
 unfoldable pub allocate_table : List ℕ → ℕ → ℕ → ℕ → List ℕ
@@ -134,4 +134,4 @@ listing_size t n = 40 + 8 * length (listing t n)
 
 -- what `size` answers
 abbrev pub size_answer : List ℕ → ℕ → Measured
-size_answer t n = measuredOf (fault_of t n) (listing_size t n)
+size_answer t n = measured_of (fault_of t n) (listing_size t n)

@@ -3,7 +3,7 @@
 #![tactic(auto)]
 
 ghost use Rattle.std.specs.Prelude.{◌≡◌};
-ghost use Rattle.freelist.specs.Answers.{onDone, answer_of, answerNumber, allocatedNumber, listedNumber};
+ghost use Rattle.freelist.specs.Answers.{on_done, answer_of, answer_number, allocated_number, listed_number};
 ghost use Rattle.freelist.specs.Freelist.{fault_of, new_number, new_table, init_number, init_table, free_number, free_table, release_table, allocate_answer, allocate_table, pages_answer, pages_list, size_answer};
 
 mod check;
@@ -55,7 +55,7 @@ pub enum Measured {
 // Makes a new table, all pages in use. A table too short for 32,768 pages is 1.
 pub fn new(table: &mut [u64]) -> Answer
     ensures answer { result ≡ answer_of (new_number table.old) }
-    ensures lent { table.new ≡ onDone (answerNumber result) (new_table table.old) table.old }
+    ensures lent { table.new ≡ on_done (answer_number result) (new_table table.old) table.old }
 {
     if table.len() < TABLE_WORDS {
         return Answer::Refused(1);
@@ -67,7 +67,7 @@ pub fn new(table: &mut [u64]) -> Answer
 // Frees the pages of the initial list, which rise strictly, each from 2 to n - 1 and in use, else 11.
 pub fn init(table: &mut [u64], n: u64, ids: &[u64]) -> Answer
     ensures answer { result ≡ answer_of (init_number table.old n ids.now) }
-    ensures lent { table.new ≡ onDone (answerNumber result) (init_table table.old ids.now) table.old }
+    ensures lent { table.new ≡ on_done (answer_number result) (init_table table.old ids.now) table.old }
 {
     let bad = init_number(table, n, ids);
     if bad != 0 {
@@ -80,7 +80,7 @@ pub fn init(table: &mut [u64], n: u64, ids: &[u64]) -> Answer
 // Makes `count` pages from `p` on pending under `tx`: at least one, all inside 2 to n - 1 and in use, else 11.
 pub fn free(table: &mut [u64], n: u64, p: u64, count: u64, tx: u64) -> Answer
     ensures answer { result ≡ answer_of (free_number table.old n p count) }
-    ensures lent { table.new ≡ onDone (answerNumber result) (free_table table.old p count tx) table.old }
+    ensures lent { table.new ≡ on_done (answer_number result) (free_table table.old p count tx) table.old }
 {
     let bad = free_number(table, n, p, count);
     if bad != 0 {
@@ -93,7 +93,7 @@ pub fn free(table: &mut [u64], n: u64, p: u64, count: u64, tx: u64) -> Answer
 // Frees every page that is pending under a number below `tx`.
 pub fn release(table: &mut [u64], n: u64, tx: u64) -> Answer
     ensures answer { result ≡ answer_of (fault_of table.old n) }
-    ensures lent { table.new ≡ onDone (answerNumber result) (release_table table.old n tx) table.old }
+    ensures lent { table.new ≡ on_done (answer_number result) (release_table table.old n tx) table.old }
 {
     let bad = fault(table, n);
     if bad != 0 {
@@ -106,7 +106,7 @@ pub fn release(table: &mut [u64], n: u64, tx: u64) -> Answer
 // Hands out pages for `bytes`: the lowest run of free pages, or else pages from `n` on, by which the count grows; 12 past 32,768.
 pub fn allocate(table: &mut [u64], n: u64, page_size: u64, bytes: u64) -> Allocated
     ensures answer { result ≡ allocate_answer table.old n page_size bytes }
-    ensures lent { table.new ≡ onDone (allocatedNumber result) (allocate_table table.old n page_size bytes) table.old }
+    ensures lent { table.new ≡ on_done (allocated_number result) (allocate_table table.old n page_size bytes) table.old }
 {
     let bad = request_fault(table, n, page_size, bytes);
     if bad != 0 {
@@ -128,7 +128,7 @@ pub fn allocate(table: &mut [u64], n: u64, page_size: u64, bytes: u64) -> Alloca
 // Writes the free and pending ids, rising, from `ids[0]` on. A list too short for them is 10.
 pub fn pages(table: &[u64], n: u64, ids: &mut [u64]) -> Listed
     ensures answer { result ≡ pages_answer table.now n ids.old }
-    ensures lent { ids.new ≡ onDone (listedNumber result) (pages_list table.now n ids.old) ids.old }
+    ensures lent { ids.new ≡ on_done (listed_number result) (pages_list table.now n ids.old) ids.old }
 {
     let bad = fault(table, n);
     if bad != 0 {

@@ -47,12 +47,12 @@ module _ (low : Key) (high : Option Key) (k : Key) where
       go false e = (refl, cc)
 
 -- ---- the keys of a sound block
-module _ (is_leaf emptyOk : Bool) (b : List ℕ) (sound : SoundBlock is_leaf emptyOk b) where
+module _ (is_leaf empty_ok : Bool) (b : List ℕ) (sound : SoundBlock is_leaf empty_ok b) where
   not-before : (i j : ℕ) → i ≤ j → j < count_of b → lower (key_of is_leaf b j) (key_of is_leaf b i) ≡ false
   not-before i j l m =
       ⊎_elim
       (λ e. rw e (lower_not (key_of is_leaf b j)))
-      (λ h. lower_one_way _ _ (order_lower _ _ (rising_far is_leaf emptyOk b sound i j h m)))
+      (λ h. lower_one_way _ _ (order_lower _ _ (rising_far is_leaf empty_ok b sound i j h m)))
       (eq-or-lt_of_le l)
 
   -- where the first is not below the lower end and the last is below the upper, all are in range
@@ -67,7 +67,7 @@ module _ (is_leaf emptyOk : Bool) (b : List ℕ) (sound : SoundBlock is_leaf emp
           let l : i ≤ count_of b - 1 = omega arith in
           ⊎_elim
           (λ e. rw e last)
-          (λ h. under_chain (key_of is_leaf b i) (key_of is_leaf b (count_of b - 1)) high (order_lower _ _ (rising_far is_leaf emptyOk b sound i (count_of b - 1) h (omega arith))) last)
+          (λ h. under_chain (key_of is_leaf b i) (key_of is_leaf b (count_of b - 1)) high (order_lower _ _ (rising_far is_leaf empty_ok b sound i (count_of b - 1) h (omega arith))) last)
           (eq-or-lt_of_le l)
 
       inside : (i : ℕ) → i < count_of b → in_range low high (key_of is_leaf b i) ≡ true

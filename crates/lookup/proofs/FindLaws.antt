@@ -27,9 +27,9 @@ use Rattle.view.proofs.ViewLaws.{row_at, at_row, rising_row}
 use Rattle.lookup.proofs.StepLaws.{child_mid, child_last}
 
 -- a sound block's keys rise, as a row
-pub rising_items : {A : Type 0} (is_leaf emptyOk : Bool) (b : List ℕ) (f : ℕ → Item A) → ((i : ℕ) → (f i).key ≡ key_of is_leaf b i)
-    → SoundBlock is_leaf emptyOk b → Rising (keys (row f (count_of b) 0))
-rising_items is_leaf emptyOk b f e s =
+pub rising_items : {A : Type 0} (is_leaf empty_ok : Bool) (b : List ℕ) (f : ℕ → Item A) → ((i : ℕ) → (f i).key ≡ key_of is_leaf b i)
+    → SoundBlock is_leaf empty_ok b → Rising (keys (row f (count_of b) 0))
+rising_items is_leaf empty_ok b f e s =
     rising_row f (count_of b) 0 (λ j l m. rw (e j, e (j + 1)) (order_lower _ _ (s.rising j (omega arith))))
 
 -- ---- the child for a key
@@ -71,7 +71,7 @@ pub value_told_lem : (start : ℕ) (b : List ℕ) (i : ℕ) (x : Leaf) → x ≡
     → ◌≡◌ {A = Value} (record { kind = x.kind; place = start + x.value; length = x.end - x.value }) (value_item start b i).value
 value_told_lem start b i x e = rw (e, add-sub_cancel_left (value_at true b i) (value_size true b i))
 
-module _ (emptyOk : Bool) (b key : List ℕ) (start : ℕ) (sound : SoundBlock true emptyOk b) where
+module _ (empty_ok : Bool) (b key : List ℕ) (start : ℕ) (sound : SoundBlock true empty_ok b) where
   abbrev items : List (Item Value)
   items = row (value_item start b) (count_of b) 0
 
@@ -85,7 +85,7 @@ module _ (emptyOk : Bool) (b key : List ℕ) (start : ℕ) (sound : SoundBlock t
       go (here m l h q p) =
           let e : (place_of true b key).at ≡ m = ap (λ (x : Place). x.at) p in
           let k : key_of true b m ≡ key = (found_at true b key m p).1 in
-          let a = seek_hit items key 0 0 m (value_item start b m) (rising_items true emptyOk b (value_item start b) (λ j. refl) sound)
+          let a = seek_hit items key 0 0 m (value_item start b m) (rising_items true empty_ok b (value_item start b) (λ j. refl) sound)
           (rw (zero-add m) at (row_at (value_item start b) (count_of b) 0 m l)) k in
           (rw e l, rw e (ap seek_step a))
       go (nowhere m l h g p) =
@@ -102,5 +102,5 @@ module _ (emptyOk : Bool) (b key : List ℕ) (start : ℕ) (sound : SoundBlock t
           let a = seek_miss items key 0 0 (λ i e x k.
           let y = at_row (value_item start b) (count_of b) 0 i e x in
           let w : key_of true b i ≡ key = (let s : value_item start b i ≡ e = rw (zero-add i) at y.1 in ap (λ (v : Item Value). v.key) s ∙ k) in
-          missing_none true emptyOk b sound key (m - 1) p i y.0 w) in
+          missing_none true empty_ok b sound key (m - 1) p i y.0 w) in
           ap seek_step a

@@ -71,7 +71,7 @@ kind_good false b i s h k = (field_fits 8 b (element_at false i) s, refl)
 kind_good true b i s h k = rw (value_length_lem true b i h) k
 
 -- ---- a range of a sound block's entries, so that what is packed of it is sound
-module _ (leaf emptyOk : Bool) (b : List ℕ) (sound : SoundBlock leaf emptyOk b) where
+module _ (leaf empty_ok : Bool) (b : List ℕ) (sound : SoundBlock leaf empty_ok b) where
   pub good_from : Bytes b → (k i : ℕ) → i + k ≤ count_of b → Each (Good leaf) (entries_from leaf b k i)
   unfolding Each entries_from
   good_from s zero i h = tt
@@ -85,9 +85,9 @@ module _ (leaf emptyOk : Bool) (b : List ℕ) (sound : SoundBlock leaf emptyOk b
   rising_from (suc (suc k)) i h = (sound.rising i (omega arith), rising_from (suc k) (i + 1) (omega arith))
 
 -- ---- a packed block
-module _ (leaf emptyOk : Bool) (id : ℕ) (es : List Entry) (P : ℕ) (p : 0 < P) (small : node_size leaf es < 2 ^ 64)
-    (filled : length es ≡ 0 → emptyOk ≡ true) (good : Each (Good leaf) es) (rising : RisingEntries es) where
-  pub packed_sound : SoundBlock leaf emptyOk (pack leaf id es P)
+module _ (leaf empty_ok : Bool) (id : ℕ) (es : List Entry) (P : ℕ) (p : 0 < P) (small : node_size leaf es < 2 ^ 64)
+    (filled : length es ≡ 0 → empty_ok ≡ true) (good : Each (Good leaf) es) (rising : RisingEntries es) where
+  pub packed_sound : SoundBlock leaf empty_ok (pack leaf id es P)
   packed_sound =
       let b : List ℕ = pack leaf id es P in
       let run = packed_run leaf id es P p small (each_map es (good_storable leaf) good) in
@@ -106,8 +106,8 @@ module _ (leaf emptyOk : Bool) (id : ℕ) (es : List Entry) (P : ℕ) (p : 0 < P
         rising = λ i l. rising_at leaf b (length es) 0 (subst RisingEntries (sym run.entries) rising) i (omega arith) (omega arith);
       }
 
-  pub check_packed : check_of leaf emptyOk (pack leaf id es P) ≡ Sound
-  check_packed = sound_check leaf emptyOk (pack leaf id es P) packed_sound
+  pub check_packed : check_of leaf empty_ok (pack leaf id es P) ≡ Sound
+  check_packed = sound_check leaf empty_ok (pack leaf id es P) packed_sound
 
 -- ---- and it passes rule 4, and as a lent block, for each allowed page size; an empty leaf does too
 type_leaf : (leaf : Bool) (t : ℕ) → t ≡ type_number leaf → eqb t 2 ≡ leaf

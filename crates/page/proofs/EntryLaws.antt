@@ -39,7 +39,7 @@ module _ (leaf : Bool) (b : List ℕ) where
   entry_at_lem d j l = from_at d (count_of b) 0 j l ∙ ap (entry_of leaf b) (zero-add j)
 
 -- ---- the keys of a sound block rise
-module _ (leaf emptyOk : Bool) (b : List ℕ) (sound : SoundBlock leaf emptyOk b) where
+module _ (leaf empty_ok : Bool) (b : List ℕ) (sound : SoundBlock leaf empty_ok b) where
   pub rising_far : (i j : ℕ) → i < j → j < count_of b → order_of (key_of leaf b i) (key_of leaf b j) ≡ Lower
   rising_far i zero l m = absurd (omega arith)
   rising_far i (suc j) l m =

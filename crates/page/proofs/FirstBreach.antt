@@ -58,47 +58,47 @@ breach_first bad common number (suc k) i r j c e = go (λ g. breach_first bad co
         )
 
 -- ---- the first breach of rules 5 to 7
-pub data FirstBreach (leaf emptyOk : Bool) (b : List ℕ) (number i common : ℕ) : Type 0 where
-  table : number ≡ 4 → i ≡ 0 → common ≡ 0 → table_bad leaf emptyOk b ≡ true → FirstBreach leaf emptyOk b number i common
-  element : number ≡ 5 → common ≡ 0 → table_bad leaf emptyOk b ≡ false → First (element_bad leaf b) 0 (count_of b) i → FirstBreach leaf emptyOk b number i common
-  key : number ≡ 6 → common ≡ common_before leaf b i → table_bad leaf emptyOk b ≡ false → ((j : ℕ) → j < count_of b → element_bad leaf b j ≡ false)
-      → First (key_bad leaf b) 1 (count_of b - 1) i → FirstBreach leaf emptyOk b number i common
+pub data FirstBreach (leaf empty_ok : Bool) (b : List ℕ) (number i common : ℕ) : Type 0 where
+  table : number ≡ 4 → i ≡ 0 → common ≡ 0 → table_bad leaf empty_ok b ≡ true → FirstBreach leaf empty_ok b number i common
+  element : number ≡ 5 → common ≡ 0 → table_bad leaf empty_ok b ≡ false → First (element_bad leaf b) 0 (count_of b) i → FirstBreach leaf empty_ok b number i common
+  key : number ≡ 6 → common ≡ common_before leaf b i → table_bad leaf empty_ok b ≡ false → ((j : ℕ) → j < count_of b → element_bad leaf b j ≡ false)
+      → First (key_bad leaf b) 1 (count_of b - 1) i → FirstBreach leaf empty_ok b number i common
 
-module _ (leaf emptyOk : Bool) (b : List ℕ) (number i common : ℕ) where
-  pub check_breach : check_of leaf emptyOk b ≡ Breach number i common → FirstBreach leaf emptyOk b number i common
-  check_breach e = go (table_bad leaf emptyOk b) refl
+module _ (leaf empty_ok : Bool) (b : List ℕ) (number i common : ℕ) where
+  pub check_breach : check_of leaf empty_ok b ≡ Breach number i common → FirstBreach leaf empty_ok b number i common
+  check_breach e = go (table_bad leaf empty_ok b) refl
     where
-      rest : table_bad leaf emptyOk b ≡ false → (v : Verdict) → first_bad (element_bad leaf b) no_common 5 (count_of b) 0 ≡ v → FirstBreach leaf emptyOk b number i common
+      rest : table_bad leaf empty_ok b ≡ false → (v : Verdict) → first_bad (element_bad leaf b) no_common 5 (count_of b) 0 ≡ v → FirstBreach leaf empty_ok b number i common
       rest t Sound f =
-          let last = breach_first (key_bad leaf b) (common_before leaf b) 6 (count_of b - 1) 1 number i common (sym (check_goes_on leaf emptyOk b t f) ∙ e) in
+          let last = breach_first (key_bad leaf b) (common_before leaf b) 6 (count_of b - 1) 1 number i common (sym (check_goes_on leaf empty_ok b t f) ∙ e) in
           key last.0 last.1 t (λ j l. bad_none_at (element_bad leaf b) no_common 5 (count_of b) 0 f j (omega arith) (omega arith)) last.2
       rest t (Breach r j c) f =
-          let same : first_bad (element_bad leaf b) no_common 5 (count_of b) 0 ≡ Breach number i common = f ∙ sym (check_stops leaf emptyOk b t r j c f) ∙ e in
+          let same : first_bad (element_bad leaf b) no_common 5 (count_of b) 0 ≡ Breach number i common = f ∙ sym (check_stops leaf empty_ok b t r j c f) ∙ e in
           let first = breach_first (element_bad leaf b) no_common 5 (count_of b) 0 number i common same in
           element first.0 first.1 t first.2
 
-      go : (t : Bool) → table_bad leaf emptyOk b ≡ t → FirstBreach leaf emptyOk b number i common
+      go : (t : Bool) → table_bad leaf empty_ok b ≡ t → FirstBreach leaf empty_ok b number i common
       go true t =
-          let f : Breach 4 0 0 ≡ Breach number i common = sym (check_table leaf emptyOk b t) ∙ e in
+          let f : Breach 4 0 0 ≡ Breach number i common = sym (check_table leaf empty_ok b t) ∙ e in
           table (cc) (cc) (cc) t
       go false t = rest t (first_bad (element_bad leaf b) no_common 5 (count_of b) 0) refl
 
-  pub breach_check : FirstBreach leaf emptyOk b number i common → check_of leaf emptyOk b ≡ Breach number i common
-  breach_check (table n z c t) = check_table leaf emptyOk b t ∙ (cc)
+  pub breach_check : FirstBreach leaf empty_ok b number i common → check_of leaf empty_ok b ≡ Breach number i common
+  breach_check (table n z c t) = check_table leaf empty_ok b t ∙ (cc)
   breach_check (element n c t f) =
-      check_stops leaf emptyOk b t number i common (first_breach (element_bad leaf b) no_common 5 (count_of b) 0 i f ∙ (cc))
+      check_stops leaf empty_ok b t number i common (first_breach (element_bad leaf b) no_common 5 (count_of b) 0 i f ∙ (cc))
   breach_check (key n c t h f) =
-      check_goes_on leaf emptyOk b t (none_bad (element_bad leaf b) no_common 5 (count_of b) 0 (λ j l m. h j (omega arith)))
+      check_goes_on leaf empty_ok b t (none_bad (element_bad leaf b) no_common 5 (count_of b) 0 (λ j l m. h j (omega arith)))
       ∙ first_breach (key_bad leaf b) (common_before leaf b) 6 (count_of b - 1) 1 i f ∙ (cc)
 
-  pub breach_iff : (check_of leaf emptyOk b ≡ Breach number i common) ↔ FirstBreach leaf emptyOk b number i common
+  pub breach_iff : (check_of leaf empty_ok b ≡ Breach number i common) ↔ FirstBreach leaf empty_ok b number i common
   breach_iff = (check_breach, breach_check)
 
   -- a common beginning above 0 is of keys
-  pub breach_common : check_of leaf emptyOk b ≡ Breach number i common → 0 < common → number ≡ 6
+  pub breach_common : check_of leaf empty_ok b ≡ Breach number i common → 0 < common → number ≡ 6
   breach_common e l = go (check_breach e)
     where
-      go : FirstBreach leaf emptyOk b number i common → number ≡ 6
+      go : FirstBreach leaf empty_ok b number i common → number ≡ 6
       go (table n z c t) = absurd (omega arith)
       go (element n c t f) = absurd (omega arith)
       go (key n c t h f) = n

@@ -128,18 +128,18 @@ breach_if_sound true number v e = absurd (let z : ◌≡◌ {A = ℕ} 0 1 = cc i
 breach_if_sound false number v e = (refl, e)
 
 -- ---- a check answers Sound for the sound blocks alone
-module _ (leaf emptyOk : Bool) (b : List ℕ) where
-  pub table_good : table_bad leaf emptyOk b ≡ false → (count_of b ≡ 0 → emptyOk ≡ true) × (table_end leaf b ≤ length b)
+module _ (leaf empty_ok : Bool) (b : List ℕ) where
+  pub table_good : table_bad leaf empty_ok b ≡ false → (count_of b ≡ 0 → empty_ok ≡ true) × (table_end leaf b ≤ length b)
   unfolding table_bad
   table_good e =
-      let both = or_neither (eqb (count_of b) 0 && not emptyOk) (ltb (length b) (table_end leaf b)) e in
-      (λ z. not-false emptyOk (rw (eq-eqb (count_of b) 0 z) at both.0), ltb-false _ _ both.1)
+      let both = or_neither (eqb (count_of b) 0 && not empty_ok) (ltb (length b) (table_end leaf b)) e in
+      (λ z. not-false empty_ok (rw (eq-eqb (count_of b) 0 z) at both.0), ltb-false _ _ both.1)
 
-  good_table : (count_of b ≡ 0 → emptyOk ≡ true) → table_end leaf b ≤ length b → table_bad leaf emptyOk b ≡ false
+  good_table : (count_of b ≡ 0 → empty_ok ≡ true) → table_end leaf b ≤ length b → table_bad leaf empty_ok b ≡ false
   unfolding table_bad
   good_table f h = go (eqb (count_of b) 0) refl
     where
-      go : (t : Bool) → eqb (count_of b) 0 ≡ t → ((eqb (count_of b) 0 && not emptyOk) || ltb (length b) (table_end leaf b)) ≡ false
+      go : (t : Bool) → eqb (count_of b) 0 ≡ t → ((eqb (count_of b) 0 && not empty_ok) || ltb (length b) (table_end leaf b)) ≡ false
       go true e = rw (f (eqb-true _ _ e), and-false, le-ltb (length b) (table_end leaf b) h)
       go false e = rw (e, le-ltb (length b) (table_end leaf b) h)
 
@@ -155,12 +155,12 @@ module _ (leaf : Bool) (b : List ℕ) (i : ℕ) where
   unfolding element_bad
   good_element p q k = rw (le-ltb (key_at leaf b i) (table_end leaf b) p, le-ltb (length b) (value_end leaf b i) q, k)
 
-module _ (leaf emptyOk : Bool) (b : List ℕ) where
-  pub check_sound : check_of leaf emptyOk b ≡ Sound → SoundBlock leaf emptyOk b
+module _ (leaf empty_ok : Bool) (b : List ℕ) where
+  pub check_sound : check_of leaf empty_ok b ≡ Sound → SoundBlock leaf empty_ok b
   unfolding check_of key_bad
   check_sound e =
       let first = breach_if_sound _ _ _ e in
-      let table = table_good leaf emptyOk b first.0 in
+      let table = table_good leaf empty_ok b first.0 in
       let rest = and_sound _ _ first.1 in
       let good : (i : ℕ) → i < count_of b → (table_end leaf b ≤ key_at leaf b i) × (value_end leaf b i ≤ length b) × (kind_bad_at leaf b i ≡ false) =
       λ i l. element_good leaf b i (bad_none_at (element_bad leaf b) no_common 5 (count_of b) 0 rest.0 i (omega arith) (omega arith)) in
@@ -176,11 +176,11 @@ module _ (leaf emptyOk : Bool) (b : List ℕ) where
             rw same at o;
       }
 
-  pub sound_check : SoundBlock leaf emptyOk b → check_of leaf emptyOk b ≡ Sound
+  pub sound_check : SoundBlock leaf empty_ok b → check_of leaf empty_ok b ≡ Sound
   unfolding check_of key_bad
   sound_check s =
       rw (
-        good_table leaf emptyOk b s.filled s.fits,
+        good_table leaf empty_ok b s.filled s.fits,
         none_bad (element_bad leaf b) no_common 5 (count_of b) 0 (λ j l m. good_element leaf b j (s.after j (omega arith)) (s.within j (omega arith)) (s.kinds j (omega arith))),
       )
       (none_bad (key_bad leaf b) (common_before leaf b) 6 (count_of b - 1) 1 (λ j l m. ap (λ (o : Order). not (is_lower o)) (before j l (omega arith))))
@@ -188,29 +188,29 @@ module _ (leaf emptyOk : Bool) (b : List ℕ) where
       before : (j : ℕ) → 1 ≤ j → j < count_of b → order_of (key_of leaf b (j - 1)) (key_of leaf b j) ≡ Lower
       before j l m = let e : j - 1 + 1 ≡ j = omega arith in rw e at (s.rising (j - 1) (omega arith))
 
-  pub sound_iff : (check_of leaf emptyOk b ≡ Sound) ↔ SoundBlock leaf emptyOk b
+  pub sound_iff : (check_of leaf empty_ok b ≡ Sound) ↔ SoundBlock leaf empty_ok b
   sound_iff = (check_sound, sound_check)
 
 -- sound, and so sound where a count of 0 is allowed
-pub sound_weaker : (leaf emptyOk : Bool) (b : List ℕ) → SoundBlock leaf emptyOk b → SoundBlock leaf true b
-sound_weaker leaf emptyOk b s =
+pub sound_weaker : (leaf empty_ok : Bool) (b : List ℕ) → SoundBlock leaf empty_ok b → SoundBlock leaf true b
+sound_weaker leaf empty_ok b s =
     record { filled = λ e. refl; fits = s.fits; after = s.after; within = s.within; kinds = s.kinds; rising = s.rising }
 
 -- ---- the check, a rule at a time
-module _ (leaf emptyOk : Bool) (b : List ℕ) where
-  pub check_table : table_bad leaf emptyOk b ≡ true → check_of leaf emptyOk b ≡ Breach 4 0 0
+module _ (leaf empty_ok : Bool) (b : List ℕ) where
+  pub check_table : table_bad leaf empty_ok b ≡ true → check_of leaf empty_ok b ≡ Breach 4 0 0
   unfolding check_of
   check_table e = rw e
 
-  pub check_elements_lem : table_bad leaf emptyOk b ≡ false → check_of leaf emptyOk b ≡ elements_of leaf b
+  pub check_elements_lem : table_bad leaf empty_ok b ≡ false → check_of leaf empty_ok b ≡ elements_of leaf b
   unfolding check_of
   check_elements_lem t = rw t
 
-  pub check_stops : table_bad leaf emptyOk b ≡ false → (r i c : ℕ) → first_bad (element_bad leaf b) no_common 5 (count_of b) 0 ≡ Breach r i c → check_of leaf emptyOk b ≡ Breach r i c
+  pub check_stops : table_bad leaf empty_ok b ≡ false → (r i c : ℕ) → first_bad (element_bad leaf b) no_common 5 (count_of b) 0 ≡ Breach r i c → check_of leaf empty_ok b ≡ Breach r i c
   unfolding check_of
   check_stops t r i c e = rw (t, e)
 
-  pub check_goes_on : table_bad leaf emptyOk b ≡ false → first_bad (element_bad leaf b) no_common 5 (count_of b) 0 ≡ Sound → check_of leaf emptyOk b ≡ first_bad (key_bad leaf b) (common_before leaf b) 6 (count_of b - 1) 1
+  pub check_goes_on : table_bad leaf empty_ok b ≡ false → first_bad (element_bad leaf b) no_common 5 (count_of b) 0 ≡ Sound → check_of leaf empty_ok b ≡ first_bad (key_bad leaf b) (common_before leaf b) 6 (count_of b - 1) 1
   unfolding check_of
   check_goes_on t e = rw (t, e)
 

@@ -54,16 +54,16 @@ module _ (leaf : Bool) (b key : List ℕ) (n : ℕ) (all : n ≡ count_of b) (m 
       ∙ ⊎_elim (λ q. scan-end leaf b key n m q) (λ q. scan_higher leaf b key n m q (g m (omega arith) q)) (eq-or-lt_of_le l))
 
 -- ---- a sound block's keys
-module _ (leaf emptyOk : Bool) (b : List ℕ) (sound : SoundBlock leaf emptyOk b) (key : List ℕ) (mid : ℕ) (l : mid < count_of b) where
+module _ (leaf empty_ok : Bool) (b : List ℕ) (sound : SoundBlock leaf empty_ok b) (key : List ℕ) (mid : ℕ) (l : mid < count_of b) where
   pub before_equal : order_of (key_of leaf b mid) key ≡ Equal → (k : ℕ) → k < mid → order_of (key_of leaf b k) key ≡ Lower
-  before_equal e k q = rw (order_equal (key_of leaf b mid) key e) at (rising_far leaf emptyOk b sound k mid q l)
+  before_equal e k q = rw (order_equal (key_of leaf b mid) key e) at (rising_far leaf empty_ok b sound k mid q l)
 
   pub up_to_lower : order_of (key_of leaf b mid) key ≡ Lower → (k : ℕ) → k < mid + 1 → order_of (key_of leaf b k) key ≡ Lower
   up_to_lower e k q =
       let h : k ≤ mid = omega arith in
       ⊎_elim
       (λ r. ap (λ (j : ℕ). order_of (key_of leaf b j) key) r ∙ e)
-      (λ r. lower_trans (key_of leaf b k) (key_of leaf b mid) key (rising_far leaf emptyOk b sound k mid r l) e)
+      (λ r. lower_trans (key_of leaf b k) (key_of leaf b mid) key (rising_far leaf empty_ok b sound k mid r l) e)
       (eq-or-lt_of_le h)
 
   pub from_higher_on : order_of (key_of leaf b mid) key ≡ Higher → (k : ℕ) → mid ≤ k → k < count_of b → order_of (key_of leaf b k) key ≡ Higher
@@ -71,7 +71,7 @@ module _ (leaf emptyOk : Bool) (b : List ℕ) (sound : SoundBlock leaf emptyOk b
       let f : order_of key (key_of leaf b mid) ≡ Lower = (lower_iff key (key_of leaf b mid)).1 e in
       ⊎_elim
       (λ r. ap (λ (j : ℕ). order_of (key_of leaf b j) key) (sym r) ∙ e)
-      (λ r. (lower_iff key (key_of leaf b k)).0 (lower_trans key (key_of leaf b mid) (key_of leaf b k) f (rising_far leaf emptyOk b sound mid k r m)))
+      (λ r. (lower_iff key (key_of leaf b k)).0 (lower_trans key (key_of leaf b mid) (key_of leaf b k) f (rising_far leaf empty_ok b sound mid k r m)))
       (eq-or-lt_of_le q)
 
 -- ---- what the scan answers, for any block: the first key that is not lower decides
@@ -124,12 +124,12 @@ pub record Missing (leaf : Bool) (b key : List ℕ) (at : ℕ) : Type 0 where
   pub lower : (k : ℕ) → k < place → order_of (key_of leaf b k) key ≡ Lower
   pub higher : (k : ℕ) → place ≤ k → k < count_of b → order_of (key_of leaf b k) key ≡ Higher
 
-module _ (leaf emptyOk : Bool) (b : List ℕ) (sound : SoundBlock leaf emptyOk b) (key : List ℕ) where
+module _ (leaf empty_ok : Bool) (b : List ℕ) (sound : SoundBlock leaf empty_ok b) (key : List ℕ) where
   -- a key that is there is found at its index
   pub present : (i : ℕ) → i < count_of b → key_of leaf b i ≡ key → place_of leaf b key ≡ record { at = i; found = true }
   present i l e =
       let q : order_of (key_of leaf b i) key ≡ Equal = rw e (order_refl key) in
-      index_found leaf b key (count_of b) refl i (before_equal leaf emptyOk b sound key i l q) l q
+      index_found leaf b key (count_of b) refl i (before_equal leaf empty_ok b sound key i l q) l q
 
   pub found_iff_lem : (i : ℕ) → (place_of leaf b key ≡ record { at = i; found = true }) ↔ ((i < count_of b) × (key_of leaf b i ≡ key))
   found_iff_lem i = (found_at leaf b key i, λ h. present i h.0 h.1)
@@ -146,7 +146,7 @@ module _ (leaf emptyOk : Bool) (b : List ℕ) (sound : SoundBlock leaf emptyOk b
             upto = l;
             told = ap (λ (x : Place). x.at) (sym e ∙ p);
             lower = h;
-            higher = λ k a c. from_higher_on leaf emptyOk b sound key m (omega arith) (g (omega arith)) k a c;
+            higher = λ k a c. from_higher_on leaf empty_ok b sound key m (omega arith) (g (omega arith)) k a c;
           }
 
   pub missing_none : (at : ℕ) → place_of leaf b key ≡ record { at = at; found = false } → (k : ℕ) → k < count_of b → key_of leaf b k ≡ key → ⊥

@@ -48,7 +48,7 @@ block_of image P q = take ((overflow_of (drop (q * P) image) + 1) * P) (drop (q 
 
 -- ---- rule 5: count 0 where it is not allowed, or the element table passes the block
 unfoldable pub table_bad : Bool → Bool → List ℕ → Bool
-table_bad leaf emptyOk b = (eqb (count_of b) 0 && not emptyOk) || ltb (length b) (table_end leaf b)
+table_bad leaf empty_ok b = (eqb (count_of b) 0 && not empty_ok) || ltb (length b) (table_end leaf b)
 
 -- ---- rule 6: key or value starting before the table's end or ending past the block, kind other than 0 or 1, bucket value not 16 bytes
 -- the value starts where the key ends, so the key's start and the value's end are the two to look at
@@ -80,11 +80,11 @@ elements_of leaf b = and_then (first_bad (element_bad leaf b) no_common 5 (count
 
 -- ---- rules 5 to 7 of a block
 unfoldable pub check_of : Bool → Bool → List ℕ → Verdict
-check_of leaf emptyOk b = breach_if (table_bad leaf emptyOk b) 4 (elements_of leaf b)
+check_of leaf empty_ok b = breach_if (table_bad leaf empty_ok b) 4 (elements_of leaf b)
 
 -- a block that keeps rules 5 to 7
-pub record SoundBlock (leaf emptyOk : Bool) (b : List ℕ) : Type 0 where
-  pub filled : count_of b ≡ 0 → emptyOk ≡ true
+pub record SoundBlock (leaf empty_ok : Bool) (b : List ℕ) : Type 0 where
+  pub filled : count_of b ≡ 0 → empty_ok ≡ true
   pub fits : table_end leaf b ≤ length b
   pub after : (i : ℕ) → i < count_of b → table_end leaf b ≤ key_at leaf b i
   pub within : (i : ℕ) → i < count_of b → value_end leaf b i ≤ length b

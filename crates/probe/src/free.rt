@@ -1,7 +1,7 @@
 // The calls on a lent freelist table. Those without fields need no room in the answer buffer, which stays.
 ghost use Rattle.std.specs.Prelude.{◌≡◌};
 ghost use Rattle.answer.specs.Answer.{told_number, told_answer, lent_with};
-ghost use Rattle.freelist.specs.Answers.{onDone, answerNumber, allocatedFields, listedFields, measuredFields};
+ghost use Rattle.freelist.specs.Answers.{on_done, answer_number, allocated_fields, listed_fields, measured_fields};
 ghost use Rattle.freelist.specs.Freelist.{fault_of, new_number, new_table, init_number, init_table, free_number, free_table, release_table, allocate_number, allocate_answer, allocate_table, pages_number, pages_answer, pages_list, size_answer};
 
 use answer::give;
@@ -11,7 +11,7 @@ use freelist::{
 
 // The number of an answer without fields.
 fn number_of(a: Answer) -> u64
-    ensures { result ≡ answerNumber a }
+    ensures { result ≡ answer_number a }
 {
     match a {
         Answer::Done => 0,
@@ -21,8 +21,8 @@ fn number_of(a: Answer) -> u64
 
 // The number of an answer of `allocate`, whose fields stand in `answer`: start, N after.
 fn tell_allocated(answer: &mut [u8], a: Allocated) -> u64
-    ensures { (result ≡ told_number (allocatedFields a) answer.old)
-        × (answer.new ≡ told_answer (allocatedFields a) answer.old) }
+    ensures { (result ≡ told_number (allocated_fields a) answer.old)
+        × (answer.new ≡ told_answer (allocated_fields a) answer.old) }
 {
     match a {
         Allocated::At(start, after) => {
@@ -38,8 +38,8 @@ fn tell_allocated(answer: &mut [u8], a: Allocated) -> u64
 
 // The number of an answer of `pages`, whose field stands in `answer`: ids written.
 fn tell_listed(answer: &mut [u8], a: Listed) -> u64
-    ensures { (result ≡ told_number (listedFields a) answer.old)
-        × (answer.new ≡ told_answer (listedFields a) answer.old) }
+    ensures { (result ≡ told_number (listed_fields a) answer.old)
+        × (answer.new ≡ told_answer (listed_fields a) answer.old) }
 {
     match a {
         Listed::Count(count) => {
@@ -55,8 +55,8 @@ fn tell_listed(answer: &mut [u8], a: Listed) -> u64
 
 // The number of an answer of `size`, whose field stands in `answer`: size.
 fn tell_measured(answer: &mut [u8], a: Measured) -> u64
-    ensures { (result ≡ told_number (measuredFields a) answer.old)
-        × (answer.new ≡ told_answer (measuredFields a) answer.old) }
+    ensures { (result ≡ told_number (measured_fields a) answer.old)
+        × (answer.new ≡ told_answer (measured_fields a) answer.old) }
 {
     match a {
         Measured::Bytes(bytes) => {
@@ -74,7 +74,7 @@ fn tell_measured(answer: &mut [u8], a: Measured) -> u64
 #[unsafe(no_mangle)]
 pub extern "C" fn tyvarmos_free_new(table: &mut [u64], answer: &mut [u8]) -> u64
     ensures { (result ≡ new_number table.old)
-        × (table.new ≡ onDone (new_number table.old) (new_table table.old) table.old)
+        × (table.new ≡ on_done (new_number table.old) (new_table table.old) table.old)
         × (answer.new ≡ answer.old) }
 {
     number_of(new(table))
@@ -89,7 +89,7 @@ pub extern "C" fn tyvarmos_free_init(
     answer: &mut [u8],
 ) -> u64
     ensures { (result ≡ init_number table.old n ids.now)
-        × (table.new ≡ onDone (init_number table.old n ids.now) (init_table table.old ids.now) table.old)
+        × (table.new ≡ on_done (init_number table.old n ids.now) (init_table table.old ids.now) table.old)
         × (answer.new ≡ answer.old) }
 {
     number_of(init(table, n, ids))
@@ -106,7 +106,7 @@ pub extern "C" fn tyvarmos_free_pages(
     answer: &mut [u8],
 ) -> u64
     ensures { (result ≡ free_number table.old n p count)
-        × (table.new ≡ onDone (free_number table.old n p count) (free_table table.old p count t) table.old)
+        × (table.new ≡ on_done (free_number table.old n p count) (free_table table.old p count t) table.old)
         × (answer.new ≡ answer.old) }
 {
     number_of(free(table, n, p, count, t))
@@ -116,7 +116,7 @@ pub extern "C" fn tyvarmos_free_pages(
 #[unsafe(no_mangle)]
 pub extern "C" fn tyvarmos_release(table: &mut [u64], n: u64, t: u64, answer: &mut [u8]) -> u64
     ensures { (result ≡ fault_of table.old n)
-        × (table.new ≡ onDone (fault_of table.old n) (release_table table.old n t) table.old)
+        × (table.new ≡ on_done (fault_of table.old n) (release_table table.old n t) table.old)
         × (answer.new ≡ answer.old) }
 {
     number_of(release(table, n, t))
@@ -131,10 +131,10 @@ pub extern "C" fn tyvarmos_allocate(
     bytes: u64,
     answer: &mut [u8],
 ) -> u64
-    ensures { (result ≡ told_number (allocatedFields (allocate_answer table.old n p bytes)) answer.old)
-        × (answer.new ≡ told_answer (allocatedFields (allocate_answer table.old n p bytes)) answer.old)
+    ensures { (result ≡ told_number (allocated_fields (allocate_answer table.old n p bytes)) answer.old)
+        × (answer.new ≡ told_answer (allocated_fields (allocate_answer table.old n p bytes)) answer.old)
         × (table.new ≡ lent_with 2 answer.old table.old
-        (onDone (allocate_number table.old n p bytes) (allocate_table table.old n p bytes) table.old)) }
+        (on_done (allocate_number table.old n p bytes) (allocate_table table.old n p bytes) table.old)) }
 {
     if answer.len() / 8 < 2 {
         return 1;
@@ -151,10 +151,10 @@ pub extern "C" fn tyvarmos_free_list(
     ids: &mut [u64],
     answer: &mut [u8],
 ) -> u64
-    ensures { (result ≡ told_number (listedFields (pages_answer table.now n ids.old)) answer.old)
-        × (answer.new ≡ told_answer (listedFields (pages_answer table.now n ids.old)) answer.old)
+    ensures { (result ≡ told_number (listed_fields (pages_answer table.now n ids.old)) answer.old)
+        × (answer.new ≡ told_answer (listed_fields (pages_answer table.now n ids.old)) answer.old)
         × (ids.new ≡ lent_with 1 answer.old ids.old
-        (onDone (pages_number table.now n ids.old) (pages_list table.now n ids.old) ids.old)) }
+        (on_done (pages_number table.now n ids.old) (pages_list table.now n ids.old) ids.old)) }
 {
     if answer.len() / 8 < 1 {
         return 1;
@@ -166,8 +166,8 @@ pub extern "C" fn tyvarmos_free_list(
 // The number of the freelist's size, with the field size.
 #[unsafe(no_mangle)]
 pub extern "C" fn tyvarmos_free_size(table: &[u64], n: u64, answer: &mut [u8]) -> u64
-    ensures { (result ≡ told_number (measuredFields (size_answer table.now n)) answer.old)
-        × (answer.new ≡ told_answer (measuredFields (size_answer table.now n)) answer.old) }
+    ensures { (result ≡ told_number (measured_fields (size_answer table.now n)) answer.old)
+        × (answer.new ≡ told_answer (measured_fields (size_answer table.now n)) answer.old) }
 {
     tell_measured(answer, size(table, n))
 }

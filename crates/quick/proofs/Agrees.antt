@@ -53,12 +53,12 @@ module _ (image : List ℕ) (P N : ℕ) (key : Key) (q : ℕ) (t : Bool) where
   b = block_of image P q
 
   -- where it keeps rules 4 to 7, it says what the scan of its block finds
-  page_says_lem : (l emptyOk : Bool) → header_bad N q (drop (q * P) image) ≡ false → is_leaf b ≡ l → (t && l) ≡ emptyOk → SoundBlock l emptyOk b
+  page_says_lem : (l empty_ok : Bool) → header_bad N q (drop (q * P) image) ≡ false → is_leaf b ≡ l → (t && l) ≡ empty_ok → SoundBlock l empty_ok b
       → page_says image P N key q t ≡ says_of l (q * P) b (halved_of (place_of l b key))
   unfolding page_says block_says check_of
-  page_says_lem l emptyOk h k e s =
-      let f : table_bad l emptyOk b ≡ false = (breach_if_sound _ _ _ (sound_check l emptyOk b s)).0 in
-      rw (h, k, e, f, halves_scan l emptyOk b s key)
+  page_says_lem l empty_ok h k e s =
+      let f : table_bad l empty_ok b ≡ false = (breach_if_sound _ _ _ (sound_check l empty_ok b s)).0 in
+      rw (h, k, e, f, halves_scan l empty_ok b s key)
 
   -- where it is no breach to the full lookup, it says the same
   page_agrees : ((r i m : ℕ) → step_of (view_of image P N q t) key ≡ Breach r i m → ⊥) → page_says image P N key q t ≡ step_of (view_of image P N q t) key

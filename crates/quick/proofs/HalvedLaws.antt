@@ -23,7 +23,7 @@ use Rattle.quick.proofs.PlaceLaws.{halve_by}
 abbrev pub halved_of : Place → Halved
 halved_of p = cond p.found (halved.Found p.at) (halved.Place p.at)
 
-module _ (leaf emptyOk : Bool) (b : List ℕ) (sound : SoundBlock leaf emptyOk b) (key : List ℕ) where
+module _ (leaf empty_ok : Bool) (b : List ℕ) (sound : SoundBlock leaf empty_ok b) (key : List ℕ) where
   -- each element keeps rule 6
   good : (i : ℕ) → i < count_of b → element_bad leaf b i ≡ false
   good i l = good_element leaf b i (sound.after i l) (sound.within i l) (sound.kinds i l)
@@ -44,10 +44,10 @@ module _ (leaf emptyOk : Bool) (b : List ℕ) (sound : SoundBlock leaf emptyOk b
       sym (ap halved_of (index_missing leaf b key (count_of b) refl l i.2 (omega arith) (λ k q r. i.3 k (omega arith) r))))
       (λ n l h m u e i. absurd (let g = good (middle l h) (omega arith) in let z : ◌≡◌ {A = ℕ} 0 1 = cc in omega arith))
       (λ n l h m u r e i.
-      let before = before_equal leaf emptyOk b sound key (middle l h) (omega arith) r in
+      let before = before_equal leaf empty_ok b sound key (middle l h) (omega arith) r in
       sym (ap halved_of (index_found leaf b key (count_of b) refl (middle l h) before (omega arith) r)))
-      (λ n l h x m r f e i. f (omega arith) (omega arith, i.1, up_to_lower leaf emptyOk b sound key (middle l h) (omega arith) r, i.3))
-      (λ n l h x m r f e i. f (omega arith) (omega arith, omega arith, i.2, from_higher_on leaf emptyOk b sound key (middle l h) (omega arith) r))
+      (λ n l h x m r f e i. f (omega arith) (omega arith, i.1, up_to_lower leaf empty_ok b sound key (middle l h) (omega arith) r, i.3))
+      (λ n l h x m r f e i. f (omega arith) (omega arith, omega arith, i.2, from_higher_on leaf empty_ok b sound key (middle l h) (omega arith) r))
 
   -- halving finds what the scan finds
   pub halves_scan : halves_of leaf b key ≡ halved_of (place_of leaf b key)

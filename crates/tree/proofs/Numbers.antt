@@ -71,10 +71,10 @@ module _ (Q : ℕ → ℕ → Type 0) (plain : (r : ℕ) → 0 < r → Q r 0) wh
   plain_told : (test : ℕ → Bool) (number k j : ℕ) → 0 < number → Told (first_bad test no_common number k j)
   plain_told test number k j l = first_told test no_common number k j (λ i. plain number l)
 
-  check_told : ((c : ℕ) → Q 6 c) → (is_leaf emptyOk : Bool) (b : List ℕ) → Told (check_of is_leaf emptyOk b)
+  check_told : ((c : ℕ) → Q 6 c) → (is_leaf empty_ok : Bool) (b : List ℕ) → Told (check_of is_leaf empty_ok b)
   unfolding check_of
-  check_told six is_leaf emptyOk b =
-      breach_if_told (table_bad is_leaf emptyOk b) 4 _ (omega arith)
+  check_told six is_leaf empty_ok b =
+      breach_if_told (table_bad is_leaf empty_ok b) 4 _ (omega arith)
       (then_told (first_bad (element_bad is_leaf b) no_common 5 (count_of b) 0) (first_bad (key_bad is_leaf b) (common_before is_leaf b) 6 (count_of b - 1) 1)
       (plain_told (element_bad is_leaf b) 5 (count_of b) 0 (omega arith))
       (first_told (key_bad is_leaf b) (common_before is_leaf b) 6 (count_of b - 1) 1 (λ i. six (common_before is_leaf b i))))

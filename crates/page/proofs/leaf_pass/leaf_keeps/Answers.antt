@@ -9,7 +9,7 @@ use Rattle.page.specs.Layout.{pos_of, key_size, value_size, key_at, value_at, ta
 use Rattle.page.specs.PageRules.{element_bad, kind_bad, kind_bad_at}
 use Rattle.page.proofs.PassLaws.{Pass, pass_first, pass_end, pass_room, pass_test, pass_out, pass_key, pass_falls, pass_next}
 use Rattle.page.proofs.leaf_pass.leaf_keeps.Goals as goal
-use Rattle.page.proofs.leaf_pass.leaf_keeps.Goals.{After-kind_bad, After-outside, After-u64_at-value, Else-kind_bad, In-loop-at, Then-at-gt-HEADER_SIZE}
+use Rattle.page.proofs.leaf_pass.leaf_keeps.Goals.{then-at-gt-HEADER_SIZE+else-not-is_below_at_once, else-at-gt-HEADER_SIZE, After-kind_bad, After-outside, After-u64_at-value, Else-kind_bad, In-loop-at, Then-at-gt-HEADER_SIZE}
 
 -- the element at `at` is one of the table
 inside : (c : In-loop-at) → c.loop-at.at < table_end true c.args.b.now
@@ -100,7 +100,10 @@ returns-then-not-is_below_at_once c =
 pub loop-at-preserved : goal.loop-at-preserved
 loop-at-preserved c =
     pass_next true c.args.b.now _ _ _ c.loop-at.invariant (inside (goal.at.loop-at-preserved c).In-loop-at) (good (goal.at.loop-at-preserved c).Else-kind_bad) _ _ (spans (goal.at.loop-at-preserved c).Else-kind_bad).0 (spans (goal.at.loop-at-preserved c).Else-kind_bad).1
-    (λ h. ⊎_elim (λ t. sym t.4.left ∙ t.3.ensures) (λ u. absurd (omega (arith, u.left))) c.if-at-gt-HEADER_SIZE.branch)
+    (λ h. elim c.if-at-gt-HEADER_SIZE.branch [
+      | then-at-gt-HEADER_SIZE+else-not-is_below_at_once w ↦ sym w.if-not-is_below_at_once.false ∙ w.is_below_at_once.ensures
+      | else-at-gt-HEADER_SIZE w ↦ absurd (omega arith)
+    ])
 
 pub returns : goal.returns
 returns c =

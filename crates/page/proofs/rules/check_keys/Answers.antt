@@ -1,4 +1,5 @@
 use Prim.Native.Nat.{◌-◌}
+use mathlib.Core.Bool.{not}
 use mathlib.Core.Path.{◌≡◌, refl, sym, ap, ap₂, ◌∙◌}
 use native.Mathlib.Omega.{arith}
 use Rattle.field.specs.Order.{parting_of}
@@ -33,7 +34,7 @@ pub returns-then-not-is_lower : goal.returns-then-not-is_lower
 returns-then-not-is_lower c =
     let a = c.args in
     let l = c.loop-i in
-    let bad = key_test a.leaf a.b.now l.i c.compare-parting.result (told (goal.at.returns-then-not-is_lower c).After-compare-parting) c.is_lower.result c.is_lower.ensures ∙ c.if-not-is_lower.true in
+    let bad = key_test a.leaf a.b.now l.i c.compare-parting.result (told (goal.at.returns-then-not-is_lower c).After-compare-parting) c.is_lower.result c.is_lower.ensures ∙ ap not c.if-not-is_lower.true in
     ap (Breach 6 l.i) (key_common a.leaf a.b.now l.i c.compare-parting.result (told (goal.at.returns-then-not-is_lower c).After-compare-parting))
     ∙ sym (l.invariant.1 ∙ bad_here (key_bad a.leaf a.b.now) (common_before a.leaf a.b.now) 6 a.n l.i (omega arith) bad)
 
@@ -41,7 +42,7 @@ pub loop-i-preserved : goal.loop-i-preserved
 loop-i-preserved c =
     let a = c.args in
     let l = c.loop-i in
-    let good = key_test a.leaf a.b.now l.i c.compare-parting.result (told (goal.at.loop-i-preserved c).After-compare-parting) c.is_lower.result c.is_lower.ensures ∙ c.if-not-is_lower.false in
+    let good = key_test a.leaf a.b.now l.i c.compare-parting.result (told (goal.at.loop-i-preserved c).After-compare-parting) c.is_lower.result c.is_lower.ensures ∙ ap not c.if-not-is_lower.false in
     (omega arith, l.invariant.1 ∙ bad_skip (key_bad a.leaf a.b.now) (common_before a.leaf a.b.now) 6 a.n l.i (omega arith) good)
 
 pub returns : goal.returns

@@ -11,7 +11,7 @@ use Rattle.answer.specs.Answer.{told_number, told_answer}
 use Rattle.answer.proofs.AnswerLaws.{short}
 use Rattle.freelist.specs.declared.Allocated.{Allocated}
 use Rattle.freelist.specs.declared.Allocated.TheVariants.{At, Refused}
-use Rattle.freelist.specs.Answers.{onDone, allocatedNumber, allocatedFields}
+use Rattle.freelist.specs.Answers.{on_done, allocated_number, allocated_fields}
 use Rattle.freelist.specs.Freelist.{allocate_number, allocate_answer, allocate_table}
 use Rattle.freelist.proofs.AnswerLaws.{number_of_allocated}
 use Rattle.probe.proofs.free.tyvarmos_allocate.Statement.{statement}
@@ -19,7 +19,7 @@ use Rattle.probe.proofs.free.tyvarmos_allocate.Tie as tie
 
 -- a buffer too short for two fields
 no_room : (a : Allocated) (answer : List ℕ) → length answer < 16
-    → (1 ≡ told_number (allocatedFields a) answer) × (answer ≡ told_answer (allocatedFields a) answer)
+    → (1 ≡ told_number (allocated_fields a) answer) × (answer ≡ told_answer (allocated_fields a) answer)
 no_room (At s m) answer l = short 0 (s ∷ m ∷ []) answer l
 no_room (Refused number) answer l = short number (0 ∷ 0 ∷ []) answer l
 
@@ -38,12 +38,12 @@ returns-2 c =
     let a = k.before.before.before.before.before.args in
     let t = a.table.now in
     let e = k.allocate.ensures.0 in
-    let n : allocatedNumber k.allocate.result ≡ allocate_number t a.n a.p a.bytes = ap allocatedNumber e ∙ number_of_allocated _ _ _ in
-    let left = k.allocate.ensures.1 ∙ ap (λ (x : ℕ). onDone x (allocate_table t a.n a.p a.bytes) t) n in
+    let n : allocated_number k.allocate.result ≡ allocate_number t a.n a.p a.bytes = ap allocated_number e ∙ number_of_allocated _ _ _ in
+    let left = k.allocate.ensures.1 ∙ ap (λ (x : ℕ). on_done x (allocate_table t a.n a.p a.bytes) t) n in
     let s = p.tell-allocated.ensures in
     let room : 16 ≤ length a.answer.now = omega (arith, k.before.before.if1.false) in (
-      s.0 ∙ ap (λ (x : Allocated). told_number (allocatedFields x) a.answer.now) e,
-      s.1 ∙ ap (λ (x : Allocated). told_answer (allocatedFields x) a.answer.now) e,
+      s.0 ∙ ap (λ (x : Allocated). told_number (allocated_fields x) a.answer.now) e,
+      s.1 ∙ ap (λ (x : Allocated). told_answer (allocated_fields x) a.answer.now) e,
       rw (le-ltb (length a.answer.now) 16 room) left,
     )
 

@@ -11,7 +11,7 @@ use Rattle.answer.specs.Answer.{told_number, told_answer}
 use Rattle.answer.proofs.AnswerLaws.{short}
 use Rattle.freelist.specs.declared.Listed.{Listed}
 use Rattle.freelist.specs.declared.Listed.TheVariants.{Count, Refused}
-use Rattle.freelist.specs.Answers.{onDone, listedNumber, listedFields}
+use Rattle.freelist.specs.Answers.{on_done, listed_number, listed_fields}
 use Rattle.freelist.specs.Freelist.{pages_number, pages_answer, pages_list}
 use Rattle.freelist.proofs.AnswerLaws.{number_of_listed}
 use Rattle.probe.proofs.free.tyvarmos_free_list.Statement.{statement}
@@ -19,7 +19,7 @@ use Rattle.probe.proofs.free.tyvarmos_free_list.Tie as tie
 
 -- a buffer too short for one field
 no_room : (a : Listed) (answer : List ℕ) → length answer < 8
-    → (1 ≡ told_number (listedFields a) answer) × (answer ≡ told_answer (listedFields a) answer)
+    → (1 ≡ told_number (listed_fields a) answer) × (answer ≡ told_answer (listed_fields a) answer)
 no_room (Count k) answer l = short 0 (k ∷ []) answer l
 no_room (Refused number) answer l = short number (0 ∷ []) answer l
 
@@ -38,12 +38,12 @@ returns-2 c =
     let t = a.table.now in
     let ids = a.ids.now in
     let e = k.pages.ensures.0 in
-    let n : listedNumber k.pages.result ≡ pages_number t a.n ids = ap listedNumber e ∙ number_of_listed _ _ in
-    let left = k.pages.ensures.1 ∙ ap (λ (x : ℕ). onDone x (pages_list t a.n ids) ids) n in
+    let n : listed_number k.pages.result ≡ pages_number t a.n ids = ap listed_number e ∙ number_of_listed _ _ in
+    let left = k.pages.ensures.1 ∙ ap (λ (x : ℕ). on_done x (pages_list t a.n ids) ids) n in
     let s = p.tell-listed.ensures in
     let room : 8 ≤ length a.answer.now = omega (arith, k.before.before.if1.false) in (
-      s.0 ∙ ap (λ (x : Listed). told_number (listedFields x) a.answer.now) e,
-      s.1 ∙ ap (λ (x : Listed). told_answer (listedFields x) a.answer.now) e,
+      s.0 ∙ ap (λ (x : Listed). told_number (listed_fields x) a.answer.now) e,
+      s.1 ∙ ap (λ (x : Listed). told_answer (listed_fields x) a.answer.now) e,
       rw (le-ltb (length a.answer.now) 8 room) left,
     )
 
