@@ -2,7 +2,7 @@
 -- Assumes nothing.
 use Prim.Native.Nat.{ℕ, suc, ◌≤◌}
 use native.Mathlib.Omega.{arith}
-use mathlib.Core.Path.{◌≡◌, refl, sym, ap, ◌∙◌}
+use mathlib.Core.Path.{◌≡◌, refl, sym, ap, subst, ◌∙◌}
 use mathlib.Core.List.{List, [], ◌∷◌}
 use mathlib.Core.Bool.{Bool, true, false, cond, ◌||◌}
 use mathlib.Core.Logic.{◌⊎◌, inl, inr, ⊎_elim}
@@ -44,7 +44,7 @@ remove_keeps x q (y ∷ ys) e f = go (eqb x y) refl (memb_cases q y ys e) (λ g.
         → memb q (cond b ys (y ∷ remove x ys)) ≡ true
     go true h (inl g) rest = absurd (f (g ∙ sym (eqb-true x y h)))
     go true h (inr g) rest = g
-    go false h (inl g) rest = rw g (memb_head y (remove x ys))
+    go false h (inl g) rest = subst (λ (z : ℕ). memb z (y ∷ remove x ys) ≡ true) (sym g) (memb_head y (remove x ys))
     go false h (inr g) rest = memb_tail q y (remove x ys) (rest g)
 
 pub no_longer : (xs ys : List ℕ) → Distinct xs → ((q : ℕ) → memb q xs ≡ true → memb q ys ≡ true) → length xs ≤ length ys

@@ -2,7 +2,7 @@
 -- Assumes nothing.
 use Prim.Native.Nat.{ℕ, zero, suc, ◌+◌}
 use native.Mathlib.Omega.{arith}
-use mathlib.Core.Path.{◌≡◌, refl, sym, ap, ◌∙◌}
+use mathlib.Core.Path.{◌≡◌, refl, sym, subst, ap, ap₂, ◌∙◌}
 use mathlib.Core.List.{List, [], ◌∷◌, ◌++◌}
 use mathlib.Core.Bool.{Bool, true, false, cond}
 use mathlib.Core.Logic.{◌⊎◌, inl, inr, ⊎_elim}
@@ -159,7 +159,7 @@ module _ {P : Type 0} where
   at_slot [] p i j e a = absurd a
   at_slot (x ∷ es) p i zero e a =
       let q : zero + i ≡ i = omega arith in
-      inl (rw (q, a))
+      inl (ap₂ (λ (k : ℕ) (u : Item P). record { page = p; index = k; entry = u }) q (sym a))
   at_slot (x ∷ es) p i (suc j) e a =
       let q : suc j + i ≡ j + suc i = omega arith in
-      inr (rw q (at_slot es p (suc i) j e a))
+      inr (subst (λ (k : ℕ). Mem (record { page = p; index = k; entry = e }) (slots p (suc i) es)) (sym q) (at_slot es p (suc i) j e a))

@@ -7,7 +7,7 @@ use Rattle.meta.proofs.fnv.times_prime.Goals as goal
 pub returns : goal.returns
 returns c =
     by_shifts _
-    (c.wrapping_add_u64-x3.ensures ∙ add-mod-mod _ _ _)
-    (c.wrapping_add_u64-x51.ensures ∙ add-mod-mod _ _ _)
-    (c.wrapping_add_u64-x435.ensures ∙ add-mod-mod _ _ _)
-    (c.wrapping_add_u64.ensures ∙ add-mod-mod _ _ _)
+    (c.wrapping_add_u64-x3.ensures.value ∙ add-mod-mod _ _ _)
+    (c.wrapping_add_u64-x51.ensures.value ∙ add-mod-mod _ _ _)
+    (c.wrapping_add_u64-x435.ensures.value ∙ add-mod-mod _ _ _)
+    (c.wrapping_add_u64.ensures.value ∙ add-mod-mod _ _ _)
