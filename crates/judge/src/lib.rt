@@ -8,7 +8,7 @@ mod range;
 
 ghost use Rattle.std.specs.Prelude.{◌≡◌, false, cond, ◌||◌, List, ◌++◌, ℕ, ◌+◌, ◌*◌, ◌≤◌, ◌<◌, ltb, length};
 ghost use Rattle.std.proofs.Math.Option.{none};
-ghost use Rattle.field.specs.Marks.{count as countMarked};
+ghost use Rattle.field.specs.Marks.{count as count_marked};
 ghost use Rattle.page.specs.Layout.{key_of, count_of};
 ghost use Rattle.page.specs.PageRules.{SoundBlock};
 ghost use Rattle.view.specs.Geometry.{SoundSizes};
@@ -110,10 +110,10 @@ fn meet(
     marks: &mut [u64],
 ) -> Page
     requires { SoundSizes image.now p n × (length marks.old ≡ 512) }
-    ensures by_index { (vs : List ℕ) → Marks marks.old vs
+    ensures says { (vs : List ℕ) → Marks marks.old vs
         → (result ≡ met_of n (pages_of image.now p n) (view_of image.now p n) left top q low.now (upper_of bounded high.now) vs)
         × (NoBreach result → Marks marks.new (pages_of image.now p n q ++ vs)) }
-    ensures marks_len { (length marks.new ≡ 512) × (NoBreach result → countMarked marks.old < countMarked marks.new) }
+    ensures keeps_length { (length marks.new ≡ 512) × (NoBreach result → count_marked marks.old < count_marked marks.new) }
 {
     if left == 0 {
         return Page::Breach(9, q, 0, 0);
@@ -146,8 +146,8 @@ fn walk<'a>(
     marks: [u64; 512],
 ) -> Walked
     requires { SoundSizes image.now p n × (q < n) × Branching image.now p n q c }
-    ensures by_index { (vs : List ℕ) → Marks marks vs → Says result (children_of image.now p n left q c (upper_of bounded high.now) vs) }
-    ensures by_index_2 { (m : ℕ) → result.outcome ≡ Outcome.Passed m → m + 2147483648 * countMarked marks ≤ 2147483648 * countMarked result.marks }
+    ensures says { (vs : List ℕ) → Marks marks vs → Says result (children_of image.now p n left q c (upper_of bounded high.now) vs) }
+    ensures counted { (m : ℕ) → result.outcome ≡ Outcome.Passed m → m + 2147483648 * count_marked marks ≤ 2147483648 * count_marked result.marks }
 {
     let b = block(image, p, n, q);
     let mut seen = marks;

@@ -3,7 +3,7 @@
 -- Assumes what a page's own check has seen to, `Checked`, and that no leaf below the root is empty, `filled`.
 use Prim.Native.Nat.{ℕ, zero, suc, ◌+◌}
 use native.Mathlib.Omega.{arith}
-use mathlib.Core.Path.{◌≡◌, refl, sym, ap, ◌∙◌}
+use mathlib.Core.Path.{◌≡◌, refl, sym, ap, ap₂, subst, ◌∙◌}
 use mathlib.Core.List.{List, [], ◌∷◌, ◌++◌}
 use mathlib.Core.Bool.{Bool, true, false, cond}
 use mathlib.Core.Option.{Option, none, some}
@@ -88,10 +88,10 @@ module _ {P : Type 0} where
   leaf_mem p k zero (x ∷ es) e n =
       let a : x ≡ e = cc in
       let z : zero + k ≡ k = omega arith in
-      inl (rw (z, a))
+      inl (ap₂ (λ (i : ℕ) (u : Item P). spot (step p i ∷ []) u) z (sym a))
   leaf_mem p k (suc j) (x ∷ es) e n =
       let z : suc j + k ≡ j + suc k = omega arith in
-      inr (rw z (leaf_mem p (suc k) j es e n))
+      inr (subst (λ (i : ℕ). Mem (spot (step p i ∷ []) e) (leaf_spots p (suc k) es)) (sym z) (leaf_mem p (suc k) j es e n))
 
 module _ {P : Type 0} (N : ℕ) (view : ℕ → Bool → View P) where
   -- the moves from the spots below page p, of d levels

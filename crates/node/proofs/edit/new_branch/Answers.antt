@@ -1,0 +1,33 @@
+-- `node::edit::new_branch` meets its contract: 1 for a page size that is not allowed, 11 for a child below 2, and else a branch of one entry. Assumes nothing.
+use mathlib.Core.Path.{◌≡◌, sym, ◌∙◌}
+use mathlib.Core.Bool.{true, false}
+use native.Mathlib.Omega.{arith}
+use Rattle.field.specs.Sizes.{size_allowed}
+use Rattle.node.proofs.NodeLaws.{allowed_range}
+use Rattle.node.proofs.EditLaws.{same_edits, refused_edits, branch_size, branch_child, branch_goes}
+use Rattle.node.proofs.edit.new_branch.Goals as goal
+use Rattle.node.proofs.edit.new_branch.Goals.{Else-not-size_allowed}
+
+allowed : (c : Else-not-size_allowed) → size_allowed c.args.p ≡ true
+allowed c = sym c.size_allowed.ensures ∙ c.if-not-size_allowed.false
+
+pub returns-then-not-size_allowed : goal.returns-then-not-size_allowed
+returns-then-not-size_allowed c =
+    let a = c.args in
+    refused_edits false a.id a.p a.out.now 1 0 0
+    (branch_size a.p a.out.now a.key.now a.child (sym c.size_allowed.ensures ∙ c.if-not-size_allowed.true))
+
+pub returns-then-child-lt2 : goal.returns-then-child-lt2
+returns-then-child-lt2 c =
+    let a = c.args in
+    refused_edits false a.id a.p a.out.now 11 0 0 (branch_child a.p a.out.now a.key.now a.child (allowed (goal.at.returns-then-child-lt2 c).Else-not-size_allowed) (omega arith))
+
+pub write_new-requires : goal.write_new-requires
+write_new-requires c =
+    let r = allowed_range c.args.p (allowed (goal.at.write_new-requires c).Else-not-size_allowed) in
+    (omega arith, r.1)
+
+pub returns : goal.returns
+returns c =
+    let a = c.args in
+    same_edits false a.id a.p a.out.now (branch_goes a.p a.out.now a.key.now a.child (allowed (goal.at.returns c).Else-not-size_allowed) (omega arith)) c.write_new.ensures

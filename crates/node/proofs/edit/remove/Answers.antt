@@ -1,0 +1,32 @@
+-- `node::edit::remove` meets its contract: the plan is that of a removal. Assumes nothing.
+use mathlib.Core.Bool.{true}
+use native.Mathlib.Omega.{arith}
+use Rattle.pack.proofs.PlanLaws.{plan_remove}
+use Rattle.node.proofs.NodeLaws.{lent, lent_as}
+use Rattle.node.proofs.EditLaws.{same_node}
+use Rattle.node.proofs.edit.remove.Goals as goal
+
+pub count-n-requires : goal.count-n-requires
+count-n-requires c = (lent c.args.p c.args.b.now c.requires.0).long
+
+pub id-page-requires : goal.id-page-requires
+id-page-requires c = (lent c.args.p c.args.b.now c.requires.0).long
+
+pub write_planned-requires : goal.write_planned-requires
+write_planned-requires c =
+    let l = lent c.args.p c.args.b.now c.requires.0 in
+    let low = l.least in
+    let n = c.count-n.ensures in
+    record {
+      sound_block = lent_as c.args.p c.args.b.now true c.requires.0 c.requires.1;
+      within = record { front = omega arith; middle = omega arith; back = omega arith; end = omega arith };
+      p_nonzero = (omega arith, l.most);
+    }
+
+pub returns : goal.returns
+returns c =
+    let n = c.count-n in
+    let a = c.args in
+    let b = a.b.now in
+    let e = plan_remove true b a.i 0 n.result b b n.ensures (omega arith) in
+    same_node true a.p a.out.now e c.id-page.ensures c.write_planned.ensures
