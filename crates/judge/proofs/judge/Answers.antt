@@ -45,7 +45,7 @@ told c = (c.meet.ensures.says [] (clear (goal.at.After-meet c).After-no_marks-ma
 
 -- the words after it was met
 abbrev after : After-meet → List ℕ
-after c = c.meet.new.marks.1.1.1.1.1.1.1.1.1.0
+after c = c.meet.new.marks
 
 -- the judge goes on from the walk of the root
 judged : (c : After-meet) (w : Walk)
@@ -79,22 +79,19 @@ after_tree-requires c = sizes (goal.at.after_tree-requires c).Else-geometry_bad
 pub returns-in-Leaf : goal.returns-in-Leaf
 returns-in-Leaf c =
     let a = c.args in
-    let g = c.entries-1.given in
-    c.after_tree.ensures (pages_of a.image.now a.p a.n a.root ++ []) (own (goal.at.returns-in-Leaf c).After-meet (Leaf g.0.0) tt g.1).2
-    ∙ judged (goal.at.returns-in-Leaf c).After-meet _ (met_leaf a.n (pages_of a.image.now a.p a.n) (view_of a.image.now a.p a.n) 16 true a.root [] none [] _ (sym (told (goal.at.returns-in-Leaf c).After-meet) ∙ g.1))
+    c.after_tree.ensures (pages_of a.image.now a.p a.n a.root ++ []) (own (goal.at.returns-in-Leaf c).After-meet (Leaf c.in-Leaf.entries) tt c.in-Leaf.is).2
+    ∙ judged (goal.at.returns-in-Leaf c).After-meet _ (met_leaf a.n (pages_of a.image.now a.p a.n) (view_of a.image.now a.p a.n) 16 true a.root [] none [] _ (sym (told (goal.at.returns-in-Leaf c).After-meet) ∙ c.in-Leaf.is))
 
 pub judge_branch-requires : goal.judge_branch-requires
 judge_branch-requires c =
     let a = c.args in
-    let g = c.c-1.given in
-    let o = own (goal.at.judge_branch-requires c).After-meet (Branch g.0.0) tt g.1 in
+    let o = own (goal.at.judge_branch-requires c).After-meet (Branch c.in-Branch.c) tt c.in-Branch.is in
     (sizes (goal.at.judge_branch-requires c).Else-geometry_bad, o.0, (told_branch a.image.now a.p a.n a.root true [] none _ o.1).0)
 
 pub returns-in-Branch : goal.returns-in-Branch
 returns-in-Branch c =
     let a = c.args in
-    let g = c.c-1.given in
-    let o = own (goal.at.returns-in-Branch c).After-meet (Branch g.0.0) tt g.1 in
+    let o = own (goal.at.returns-in-Branch c).After-meet (Branch c.in-Branch.c) tt c.in-Branch.is in
     let b = (told_branch a.image.now a.p a.n a.root true [] none _ o.1).1 in
     c.judge_branch.ensures (pages_of a.image.now a.p a.n a.root ++ []) o.2
-    ∙ judged (goal.at.returns-in-Branch c).After-meet _ (met_branch a.n (pages_of a.image.now a.p a.n) (view_of a.image.now a.p a.n) 16 true a.root [] none [] _ _ b (sym (told (goal.at.returns-in-Branch c).After-meet) ∙ g.1))
+    ∙ judged (goal.at.returns-in-Branch c).After-meet _ (met_branch a.n (pages_of a.image.now a.p a.n) (view_of a.image.now a.p a.n) 16 true a.root [] none [] _ _ b (sym (told (goal.at.returns-in-Branch c).After-meet) ∙ c.in-Branch.is))

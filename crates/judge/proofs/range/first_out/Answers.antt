@@ -34,8 +34,7 @@ pub returns-in-Out : goal.returns-in-Out
 returns-in-Out c =
     let a = c.args in
     let high = upper_of a.bounded a.high.now in
-    let g = c.common-1.given in
-    let o = is_out a.low.now high (key_of a.leaf a.b.now c.loop-i.i) g.0.0 (sym (ranged (goal.at.returns-in-Out c).After-against_range) ∙ g.1) in
+    let o = is_out a.low.now high (key_of a.leaf a.b.now c.loop-i.i) c.in-Out.common (sym (ranged (goal.at.returns-in-Out c).After-against_range) ∙ c.in-Out.is) in
     ap (Breach 7 c.loop-i.i) o.1
     ∙ sym
     (c.loop-i.invariant.1
