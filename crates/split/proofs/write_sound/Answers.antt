@@ -19,7 +19,7 @@ use Rattle.cuts.proofs.PartedLaws.{run_ready, put_made}
 use Rattle.split.proofs.PagesLaws.{pieces_code, length_code, length_all}
 use Rattle.split.proofs.WrittenLaws.{count_most, written_count, written_unplaced, written_large, written_short, bytes_fit, written_made}
 use Rattle.split.proofs.write_sound.Goals as goal
-use Rattle.split.proofs.write_sound.Goals.{After-all_placed, After-count_cuts-pieces, After-run_end-end, Else-not-fits, Else-pages-pieces}
+use Rattle.split.proofs.write_sound.Goals.{After-all_placed, After-count_cuts-pieces, After-run_end-end, Else-not-fits, Else-pages-pieces, After-fits}
 
 pub run_end-end-requires : goal.run_end-end-requires
 run_end-end-requires c =
@@ -111,12 +111,12 @@ pub fits-requires : goal.fits-requires
 fits-requires c = ready (goal.at.fits-requires c).After-run_end-end
 
 -- whether they fit
-fitting : (c : tie.After-fits2) →
-    let a = c.before.before.before.before.before.before.before.before.before.before.before.before.args in
-    leb (bytes_in a.p (capped_spans a.leaf a.p (pieces_of a.leaf a.p (entries_of a.leaf a.b.now)))) (length a.out.now) ≡ c.fits2.result
+fitting : (c : After-fits) →
+    let a = c.args in
+    leb (bytes_in a.p (capped_spans a.leaf a.p (pieces_of a.leaf a.p (entries_of a.leaf a.b.now)))) (length a.out.now) ≡ c.fits.result
 fitting c =
-    let a = c.before.before.before.before.before.before.before.before.before.before.before.before.args in
-    ap (λ (ps : List (List Entry)). leb (bytes_in a.p (capped_spans a.leaf a.p ps)) (length a.out.now)) (pieces c.before.before.before.before.before) ∙ sym c.fits2.ensures
+    let a = c.args in
+    ap (λ (ps : List (List Entry)). leb (bytes_in a.p (capped_spans a.leaf a.p ps)) (length a.out.now)) (pieces (goal.at.After-fits c).After-count_cuts-pieces) ∙ sym c.fits.ensures
 
 pub returns-then-not-fits : goal.returns-then-not-fits
 returns-then-not-fits c =
@@ -145,7 +145,7 @@ write_pieces-bytes-requires c =
     let a = c.args in
     let e = ap (λ (ps : List (List Entry)). bytes_in a.p (spans_of a.leaf a.p ps)) (listed (goal.at.write_pieces-bytes-requires c).Else-pages-pieces) in
     let k = room (goal.at.write_pieces-bytes-requires c).Else-not-fits in
-    (ready (goal.at.write_pieces-bytes-requires c).After-run_end-end, omega arith)
+    record { ready = ready (goal.at.write_pieces-bytes-requires c).After-run_end-end; pages_in_bounds = omega arith }
 
 pub returns : goal.returns
 returns c =
