@@ -17,7 +17,7 @@ pub struct Step {
 }
 
 // A cursor: the path from the root to an entry. It has `length` steps, and none says that it stands nowhere.
-#[derive(Drop)]
+#[derive(Clone, Copy)]
 pub struct Cursor {
     pub steps: [Step; 16],
     pub length: usize,

@@ -1,0 +1,20 @@
+-- `cursor::follow::follow` meets its contract. The loop's invariant: whether the whole path stands is whether what is left of it does, from `q` on.
+-- Assumes nothing.
+use mathlib.Core.Path.{◌≡◌}
+use mathlib.Core.Bool.{true}
+use Prim.Native.Nat.{◌-◌, ◌≤◌}
+use lib.Dec.{eqb}
+use lib.ListN.{length, take, drop}
+use Rattle.path.specs.Path.{step, follow}
+use Rattle.view.specs.View.{view_of}
+use Rattle.cursor.specs.Working.{followed_of}
+use Rattle.cursor.proofs.follow.follow.Given as goal
+
+abbrev pub invariant-loop-k : goal.invariant-loop-k
+invariant-loop-k l =
+    (l.k ≤ l.length) × (l.length ≤ 16)
+    × (followed_of (follow l.n (view_of l.image l.p l.n) 16 true l.root (take l.length l.steps))
+    ≡ followed_of (follow l.n (view_of l.image l.p l.n) (16 - l.k) (eqb l.k 0) l.q (drop l.k (take l.length l.steps))))
+
+abbrev pub decreases-loop-k : goal.decreases-loop-k
+decreases-loop-k l = l.length - l.k

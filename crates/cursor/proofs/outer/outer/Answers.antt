@@ -1,0 +1,94 @@
+use mathlib.Core.Path.{◌≡◌, refl, sym, ap, ◌∙◌}
+use Prim.Native.Nat.{◌-◌, ◌*◌}
+use native.Mathlib.Omega.{arith}
+use lib.Dec.{eqb}
+use lib.ListN.{length, take, set}
+use Rattle.page.specs.PageRules.{block_of}
+use Rattle.page.proofs.RuleLaws.{sound_weaker}
+use Rattle.path.specs.Path.{step, at, end, refused, outer}
+use Rattle.view.specs.View.{value_item, view_of}
+use Rattle.cursor.specs.Cursor.{moved_of}
+use Rattle.cursor.specs.Working.{edge_of, under}
+use Rattle.cursor.proofs.MetLaws.{BranchMet, LeafMet, bad_met, branch_met, leaf_met}
+use Rattle.cursor.proofs.OuterLaws.{outer_bad, outer_branch, outer_leaf, outer_empty, outer_deep}
+use Rattle.cursor.proofs.StepsLaws.{clear_set, made_at, under_turn, under_end, under_refused, under_at}
+use Rattle.cursor.proofs.outer.outer.Goals as goal
+use Rattle.cursor.proofs.outer.outer.Goals.{In-Branch, In-Leaf}
+
+pub loop-level-init : goal.loop-level-init
+loop-level-init c = (c.requires.2, c.requires.1, refl)
+
+pub meet-requires : goal.meet-requires
+meet-requires c = c.requires.0
+
+pub returns-in-Bad : goal.returns-in-Bad
+returns-in-Bad c =
+    let a = c.args in
+    let s = c.requires.0 in
+    let m = bad_met a.image.now a.p a.n c.loop-level.q (eqb c.loop-level.level 0) s _ _ _ (sym c.meet.ensures ∙ c.in-Bad.is) in
+    let o = outer_bad a.n (view_of a.image.now a.p a.n) a.way c.loop-level.level c.loop-level.q (omega arith) _ _ _ m in
+    c.refuse.ensures ∙ sym (ap (moved_of a.given) (c.loop-level.invariant.2 ∙ ap (under (take c.loop-level.level c.loop-level.steps)) o ∙ under_refused (take c.loop-level.level c.loop-level.steps) _ _ _ _))
+
+-- the branch that was met
+branch-here : (c : In-Branch)
+    → let a = c.args in
+    BranchMet a.image.now a.p a.n c.loop-level.q (eqb c.loop-level.level 0) c.in-Branch.count
+branch-here c =
+    branch_met c.args.image.now c.args.p c.args.n c.loop-level.q (eqb c.loop-level.level 0) c.requires.0 _ (sym c.meet.ensures ∙ c.in-Branch.is)
+
+pub edge-i-requires : goal.edge-i-requires
+edge-i-requires c = (branch-here c).some
+
+pub child_at-q-requires : goal.child_at-q-requires
+child_at-q-requires c =
+    let b = branch-here (goal.at.child_at-q-requires c).In-Branch in
+    let l = c.edge-i.ensures.1 in
+    (b.page, b.sound, rw b.counted at l)
+
+pub loop-level-preserved : goal.loop-level-preserved
+loop-level-preserved c =
+    let b = branch-here (goal.at.loop-level-preserved c).In-Branch in
+    let a = c.args in
+    let i : c.edge-i.result ≡ edge_of a.way (length b.children) = c.edge-i.ensures.0 ∙ ap (edge_of a.way) (sym b.size) in
+    let o = outer_branch a.n (view_of a.image.now a.p a.n) a.way c.loop-level.level c.loop-level.q (omega arith) b.children _ c.edge-i.result c.child_at-q.result
+    b.seen i (b.child c.edge-i.result c.edge-i.ensures.1) c.child_at-q.ensures in (
+      omega arith,
+      clear_set c.loop-level.steps c.loop-level.level _ (omega arith) c.loop-level.invariant.1,
+      c.loop-level.invariant.2 ∙ ap (under (take c.loop-level.level c.loop-level.steps)) o
+          ∙ under_turn c.loop-level.steps c.loop-level.level _ _ (omega arith) c.loop-level.invariant.1,
+    )
+
+leaf-here : (c : In-Leaf)
+    → let a = c.args in
+    LeafMet a.image.now a.p a.n c.loop-level.q (eqb c.loop-level.level 0) c.in-Leaf.count
+leaf-here c =
+    leaf_met c.args.image.now c.args.p c.args.n c.loop-level.q (eqb c.loop-level.level 0) c.requires.0 _ (sym c.meet.ensures ∙ c.in-Leaf.is)
+
+pub returns-then-count-eq0 : goal.returns-then-count-eq0
+returns-then-count-eq0 c =
+    let b = leaf-here (goal.at.returns-then-count-eq0 c).In-Leaf in
+    let a = c.args in
+    let o = outer_empty a.n (view_of a.image.now a.p a.n) a.way c.loop-level.level c.loop-level.q (omega arith) b.entries b.seen (b.size ∙ omega arith) in
+    sym (ap (moved_of a.given) (c.loop-level.invariant.2 ∙ ap (under (take c.loop-level.level c.loop-level.steps)) o ∙ under_end (take c.loop-level.level c.loop-level.steps)))
+
+pub entry_at-requires : goal.entry_at-requires
+entry_at-requires c =
+    let b = leaf-here (goal.at.entry_at-requires c).In-Leaf in
+    let l = c.edge-i-in-Leaf.ensures.1 in
+    (b.page, sound_weaker _ _ _ b.sound, rw b.counted at l)
+
+pub returns-in-Leaf : goal.returns-in-Leaf
+returns-in-Leaf c =
+    let b = leaf-here (goal.at.returns-in-Leaf c).In-Leaf in
+    let a = c.args in
+    let i : c.edge-i-in-Leaf.result ≡ edge_of a.way (length b.entries) = c.edge-i-in-Leaf.ensures.0 ∙ ap (edge_of a.way) (sym b.size) in
+    let o = outer_leaf a.n (view_of a.image.now a.p a.n) a.way c.loop-level.level c.loop-level.q (omega arith) b.entries _ c.edge-i-in-Leaf.result
+    b.seen i (b.entry c.edge-i-in-Leaf.result c.edge-i-in-Leaf.ensures.1) in
+    made_at a.given c.loop-level.steps c.loop-level.level _ _ (value_item (c.loop-level.q * a.p) (block_of a.image.now a.p c.loop-level.q) c.edge-i-in-Leaf.result) (omega arith) c.loop-level.invariant.1 c.entry_at.ensures
+    ∙ sym (ap (moved_of a.given) (c.loop-level.invariant.2 ∙ ap (under (take c.loop-level.level c.loop-level.steps)) o ∙ under_at (take c.loop-level.level c.loop-level.steps) _ _))
+
+pub returns : goal.returns
+returns c =
+    let a = c.args in
+    let o = outer_deep a.n (view_of a.image.now a.p a.n) a.way c.loop-level.level (eqb c.loop-level.level 0) c.loop-level.q (omega arith) in
+    c.refuse-2.ensures ∙ sym (ap (moved_of a.given) (c.loop-level.invariant.2 ∙ ap (under (take c.loop-level.level c.loop-level.steps)) o ∙ under_refused (take c.loop-level.level c.loop-level.steps) _ _ _ _))
