@@ -127,8 +127,9 @@ module _ (image : List ℕ) (P N : ℕ) (sizes : SoundSizes image P N) (c : Curs
           go (last_level es m n x) =
               let s = leaf_seen image P N (page_at c k) (eqb k 0) sizes es m in
               let e = s.counted in
+              let same : s.entries ≡ es = (let p = s.seen in cc) in
               let f = some_on_leaf N view c.steps c.length sixteen few stood.1 (stood.0, stood.2) way k l es (value_item (page_at c k * P) (block k) (beside_of way (index k))) m (rw s.counted h)
-              (s.entry (beside_of way (index k)) (omega arith)) in
+              (rw same at (s.entry (beside_of way (index k)) (omega arith))) in
               lifted N view c.steps c.length sixteen few stood.1 (stood.0, stood.2) way k l (λ g. let q = sym f ∙ g in let z : ◌≡◌ {A = ℕ} 0 1 = cc in omega arith)
               ∙ ap (under (take k c.steps)) f
               ∙ under_at (take k c.steps) (step (page_at c k) (beside_of way (index k))) (value_item (page_at c k * P) (block k) (beside_of way (index k)))
@@ -136,8 +137,9 @@ module _ (image : List ℕ) (P N : ℕ) (sizes : SoundSizes image P N) (c : Curs
           go (mid_level cs d m n y x) =
               let s = branch_seen image P N (page_at c k) (eqb k 0) sizes cs m in
               let e = s.counted in
+              let same : s.children ≡ cs = (let p = s.seen in cc) in
               let f = some_on_branch N view c.steps c.length sixteen few stood.1 (stood.0, stood.2) way k l cs d (child_item (block k) (beside_of way (index k))) m n x b (rw s.counted h)
-              (s.child (beside_of way (index k)) (omega arith)) in
+              (rw same at (s.child (beside_of way (index k)) (omega arith))) in
               let o = outer_some N view branches leaves way (16 - (k + 1)) (page_of (block k) (beside_of way (index k))) in
               lifted N view c.steps c.length sixteen few stood.1 (stood.0, stood.2) way k l
               (λ g. below_some (step (page_at c k) (beside_of way (index k))) (outer N view way (16 - (k + 1)) false (page_of (block k) (beside_of way (index k)))) o (sym f ∙ g))

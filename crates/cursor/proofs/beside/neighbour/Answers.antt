@@ -1,3 +1,4 @@
+use borrow.Author.Rules.{rules}
 use mathlib.Core.Path.{◌≡◌, sym, ap, ◌∙◌}
 use mathlib.Core.Bool.{true, false}
 use Prim.Native.Nat.{ℕ, ◌+◌, ◌-◌, ◌<◌}
@@ -16,7 +17,7 @@ use Rattle.cursor.proofs.beside.neighbour.Goals as goal
 use Rattle.cursor.proofs.beside.neighbour.Goals.{In-loop-level, Start}
 
 sixteen : (s : Start) → length s.args.c.steps ≡ 16
-sixteen s = sym (length-map s.args.c.steps _) ∙ s.well_formed.1.1.1.1.0.1.1.0.1.0.1
+sixteen s = search rules
 
 pub loop-level-init : goal.loop-level-init
 loop-level-init c =
@@ -47,7 +48,12 @@ has_beside-requires c =
     (level_page a.image.now a.p a.n c.requires.0 a.c (sixteen (goal.at.has_beside-requires c).Start) c.requires.1 c.requires.2 (c.loop-level.level - 1) (below-16 (goal.at.has_beside-requires c).In-loop-level)).1
 
 pub beside-i-requires : goal.beside-i-requires
-beside-i-requires c = (has_beside-requires (goal.at.beside-i-requires c).After-count_at-count κs, sym c.has_beside.ensures ∙ c.if-has_beside.true)
+beside-i-requires c =
+    let a = c.args in (
+      rw c.count_at-count.ensures
+          (level_page a.image.now a.p a.n c.requires.0 a.c (sixteen (goal.at.beside-i-requires c).Start) c.requires.1 c.requires.2 (c.loop-level.level - 1) (below-16 (goal.at.beside-i-requires c).In-loop-level)).1,
+      sym c.has_beside.ensures ∙ c.if-has_beside.true,
+    )
 
 pub turn-requires : goal.turn-requires
 turn-requires c =

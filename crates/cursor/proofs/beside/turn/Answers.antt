@@ -1,4 +1,5 @@
 -- `cursor::beside::turn` meets its contract: below a child, or the entry itself on the path's last page. Assumes nothing.
+use borrow.Author.Rules.{rules}
 use mathlib.Core.Path.{◌≡◌, sym, ap, ◌∙◌}
 use mathlib.Core.Bool.{false}
 use mathlib.Core.List.{List, [], ◌∷◌, ◌++◌}
@@ -26,7 +27,7 @@ made s = take s.args.k s.args.c.steps ++ (step (get_or s.args.c.steps s.args.k (
 
 long : (s : Start) → length (made s) ≡ s.args.k + 1
 long s =
-    let n : length s.args.c.steps ≡ 16 = sym (length-map s.args.c.steps _) ∙ s.well_formed.1.1.1.1.0.1.1.0.1.0.1 in
+    let n : length s.args.c.steps ≡ 16 = search rules in
     let l = s.requires.1 in
     let f = s.requires.2 in
     let t = length-take-le s.args.k s.args.c.steps (omega arith) in

@@ -1,3 +1,4 @@
+use borrow.Author.Rules.{rules}
 use mathlib.Core.Path.{◌≡◌, refl, sym, ap, ◌∙◌}
 use mathlib.Core.Bool.{true, false}
 use mathlib.Core.List.{List, ◌∷◌}
@@ -22,7 +23,7 @@ pub loop-k-init : goal.loop-k-init
 loop-k-init c = (omega arith, c.requires.1, refl)
 
 sixteen : (c : Start) → length c.args.c.steps ≡ 16
-sixteen c = sym (length-map c.args.c.steps _) ∙ c.well_formed.1.1.1.1.0.1.1.0.1.0.1
+sixteen c = search rules
 
 -- the step that is followed
 abbrev here : (c : In-loop-k) → Step

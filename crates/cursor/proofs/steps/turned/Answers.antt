@@ -1,3 +1,4 @@
+use borrow.Author.Rules.{rules}
 use mathlib.Core.Path.{◌≡◌, refl, sym, ap, ◌∙◌}
 use mathlib.Core.List.{List, [], ◌∷◌, ◌++◌}
 use Prim.Native.Nat.{◌+◌, ◌-◌}
@@ -14,7 +15,7 @@ pub loop-i-init : goal.loop-i-init
 loop-i-init c = (omega arith, clear_none, refl)
 
 sixteen : (c : Start) → length c.args.c.steps ≡ 16
-sixteen c = sym (length-map c.args.c.steps _) ∙ c.well_formed.0.1.1.0.1.0.1
+sixteen c = search rules
 
 pub loop-i-preserved : goal.loop-i-preserved
 loop-i-preserved c =
