@@ -3,20 +3,20 @@
 use mathlib.Core.Path.{◌≡◌, refl, sym, ap, ◌∙◌}
 use mathlib.Core.Bool.{Bool, true, false}
 use mathlib.Core.List.{List, [], ◌∷◌, ◌++◌}
-use mathlib.Core.Option.{none, some}
+use mathlib.Core.Option.{some}
 use Prim.Native.Nat.{ℕ, zero, suc, ◌+◌, ◌-◌, ◌*◌, ◌≤◌, ◌<◌}
 use native.Mathlib.Omega.{arith}
 use borrow.Author.Tests.{lt-ltb, le-ltb}
 use lib.Dec.{eqb}
 use lib.ListN.{length, get_or, take, drop}
 use Rattle.page.specs.Layout.{count_of, page_of}
-use Rattle.page.specs.PageRules.{SoundBlock, block_of}
+use Rattle.page.specs.PageRules.{block_of}
 use Rattle.page.proofs.RuleLaws.{sound_weaker}
 use Rattle.walk.specs.Tree.{Item, View, branch, leaf}
 use Rattle.path.specs.declared.Direction.{Direction}
 use Rattle.path.specs.declared.Step.{Step}
 use Rattle.path.specs.declared.Cursor.{Cursor}
-use Rattle.path.specs.Path.{step, nth, Move, at, end, refused, below, met, outer, follow, neighbour}
+use Rattle.path.specs.Path.{step, nth, Move, at, end, refused, below, outer, follow, neighbour}
 use Rattle.path.proofs.Stands.{follow_not_end}
 use Rattle.view.specs.declared.Value.{Value}
 use Rattle.view.specs.Geometry.{SoundSizes}

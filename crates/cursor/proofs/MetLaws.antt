@@ -4,7 +4,7 @@ use mathlib.Core.Path.{◌≡◌, refl, sym, ap, ◌∙◌}
 use mathlib.Core.Bool.{Bool, true, false, cond}
 use mathlib.Core.List.{List, [], ◌∷◌}
 use mathlib.Core.Option.{Option, none, some}
-use Prim.Native.Nat.{ℕ, zero, suc, ◌+◌, ◌*◌, ◌≤◌, ◌<◌}
+use Prim.Native.Nat.{ℕ, zero, suc, ◌*◌, ◌≤◌, ◌<◌}
 use native.Mathlib.Nat.{zero-add}
 use native.Mathlib.Omega.{arith}
 use lib.ListN.{length}
@@ -17,7 +17,6 @@ use Rattle.view.specs.Geometry.{SoundSizes}
 use Rattle.view.specs.View.{row, child_item, value_item, view_of}
 use Rattle.view.proofs.GeometryLaws.{inside_parts}
 use Rattle.view.proofs.ViewLaws.{length_row, row_at, view_branch, view_leaf}
-use Rattle.cursor.specs.declared.sight.Sight.{Sight}
 use Rattle.cursor.specs.declared.sight.Sight.TheVariants.{Bad, Branch, Leaf}
 use Rattle.cursor.specs.Sight.{sight_of, SoundPage}
 

@@ -3,8 +3,8 @@
 use mathlib.Core.Path.{◌≡◌, refl, sym}
 use mathlib.Core.Bool.{Bool, true, false}
 use mathlib.Core.List.{List, [], ◌∷◌}
-use mathlib.Core.Option.{Option, none, some}
-use Prim.Native.Nat.{ℕ, zero, suc, ◌+◌, ◌-◌, ◌≤◌, ◌<◌}
+use mathlib.Core.Option.{some}
+use Prim.Native.Nat.{ℕ, suc, ◌+◌, ◌-◌, ◌≤◌, ◌<◌}
 use native.Mathlib.Omega.{arith}
 use borrow.Author.Tests.{eqb-true}
 use lib.Dec.{eqb}
@@ -12,7 +12,7 @@ use lib.ListN.{length}
 use Rattle.walk.specs.Tree.{Item, View, bad, branch, leaf}
 use Rattle.path.specs.declared.Direction.{Direction}
 use Rattle.path.specs.declared.Direction.TheVariants.{Onward, Back}
-use Rattle.path.specs.Path.{step, nth, placed, outermost, Move, at, end, refused, below, met, outer}
+use Rattle.path.specs.Path.{step, nth, placed, outermost, at, end, refused, below, met, outer}
 use Rattle.cursor.specs.Working.{edge_of}
 use Rattle.cursor.proofs.MetLaws.{nth_none}
 

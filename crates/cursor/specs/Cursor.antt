@@ -1,6 +1,6 @@
 -- 02, order 1: what the cursor's calls answer.
 -- Assumes nothing.
-use Rattle.std.specs.Prelude.{◌≡◌, Bool, true, cond, ◌||◌, List, [], ◌++◌, ℕ, ◌+◌, ◌-◌, ltb, eqb, length, take, replicate}
+use Rattle.std.specs.Prelude.{Bool, true, cond, ◌||◌, List, [], ◌++◌, ℕ, ◌+◌, ◌-◌, ltb, eqb, length, take, replicate}
 use Rattle.walk.specs.Tree.{Key, Item}
 use Rattle.path.specs.declared.Direction.{Direction}
 use Rattle.path.specs.declared.Direction.TheVariants.{Back}
@@ -13,7 +13,6 @@ use Rattle.view.specs.Fault.{fault_at}
 use Rattle.view.specs.Geometry.{geometry_bad}
 use Rattle.view.specs.View.{view_of}
 use Rattle.cursor.specs.declared.Entry.{Entry}
-use Rattle.cursor.specs.declared.Stand.{Stand}
 use Rattle.cursor.specs.declared.Stand.TheVariants.{At, End, Refused}
 use Rattle.cursor.specs.declared.Moved.{Moved}
 

@@ -13,7 +13,7 @@ use lib.Arith.{lt_of_le-ne}
 use lib.Pow.{pow_pos, mod-pow-add}
 use lib.Count.{ones, ones_cat}
 use lib.Bits.{bit_or}
-use lib.ListN.{length, get_or, set, replicate, length-replicate, length-set}
+use lib.ListN.{length, get_or, replicate, length-replicate, length-set}
 use lib.Seq.{get_or-set_same, get_or-set_other}
 use Rattle.field.proofs.BitLaws.{tri, same_or, digit_or, digit_pow_same, digit_pow_other}
 use Rattle.field.specs.Marks.{marked_in, mark, Marked, is_marked, count_below, count, with_mark, with_marks, lowest_marked, no_marks}

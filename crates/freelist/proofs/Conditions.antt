@@ -5,14 +5,14 @@ use mathlib.Core.Path.{◌≡◌, refl, ap}
 use mathlib.Core.Logic.{◌↔◌}
 use mathlib.Core.List.{List}
 use mathlib.Core.Bool.{true, ◌&&◌}
-use Prim.Native.Nat.{ℕ, ◌+◌, ◌-◌, ◌≤◌, ◌<◌}
+use Prim.Native.Nat.{ℕ, ◌+◌, ◌≤◌, ◌<◌}
 use borrow.Author.Tests.{le-leb, leb-true, lt-ltb}
 use lib.Dec.{leb, ltb}
 use lib.ListN.{length}
 use Rattle.freelist.specs.declared.table.State.{State}
 use Rattle.freelist.specs.declared.table.State.TheVariants.{InUse, Free, Pending, Broken}
 use Rattle.freelist.specs.Table.{state_of, is_state, is_in_use}
-use Rattle.freelist.specs.Pages.{◌∈◌, all, rising}
+use Rattle.freelist.specs.Pages.{◌∈◌, rising}
 use Rattle.freelist.specs.Answers.{◌or_else◌, ◌and_then◌}
 use Rattle.freelist.specs.Freelist.{fault_of, initial, init_number, block_allowed, free_number, request_fault}
 use Rattle.freelist.proofs.PageLaws.{clash, all_of, all_row_of, all_row_at}

@@ -10,7 +10,7 @@ use lib.ListN.{length, get_or}
 use Rattle.freelist.specs.declared.Listed.TheVariants as listed
 use Rattle.freelist.specs.declared.Measured.TheVariants.{Bytes}
 use Rattle.freelist.specs.Table.{state_of, is_listed}
-use Rattle.freelist.specs.Pages.{◌∈◌, pages_of, rising}
+use Rattle.freelist.specs.Pages.{◌∈◌, pages_of}
 use Rattle.freelist.specs.Answers.{listed_of, measured_of}
 use Rattle.freelist.specs.Freelist.{fault_of, listing, pages_number, listing_size}
 use Rattle.freelist.proofs.PageLaws.{in_row, row_in, rising_row, rising_at, rising_keep, keep_iff}

@@ -1,6 +1,6 @@
 -- 01, "Search and lookup": what lookup answers, from the root down.
 -- Assumes nothing.
-use Rattle.std.specs.Prelude.{true, cond, List, [], ℕ, length, take, drop}
+use Rattle.std.specs.Prelude.{true, cond, List, [], ℕ, take, drop}
 use Rattle.walk.specs.Tree.{Key, Answer, refused, found, absent, lookup}
 use Rattle.view.specs.declared.Value.{Value}
 use Rattle.lookup.specs.declared.Looked.{Looked}

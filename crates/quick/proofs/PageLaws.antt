@@ -3,7 +3,7 @@
 use mathlib.Core.Path.{◌≡◌, refl, sym}
 use mathlib.Core.Bool.{Bool, true, false, cond, and-true, and-false}
 use mathlib.Core.List.{List}
-use Prim.Native.Nat.{ℕ, ◌-◌, ◌*◌}
+use Prim.Native.Nat.{ℕ, ◌*◌}
 use lib.ListN.{drop}
 use Rattle.page.specs.Layout.{is_leaf}
 use Rattle.page.specs.PageRules.{header_bad, table_bad, block_of}
@@ -11,7 +11,7 @@ use Rattle.walk.specs.Tree.{Key}
 use Rattle.view.specs.Geometry.{geometry_bad}
 use Rattle.view.specs.Fault.{fault_at}
 use Rattle.lookup.specs.declared.Looked.TheVariants as looked
-use Rattle.lookup.specs.declared.descent.Step.TheVariants.{Found, Breach}
+use Rattle.lookup.specs.declared.descent.Step.TheVariants.{Breach}
 use Rattle.lookup.specs.Descent.{descend}
 use Rattle.quick.specs.declared.halving.Halved.{Halved}
 use Rattle.quick.specs.declared.halving.Halved.TheVariants as halved

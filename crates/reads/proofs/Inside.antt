@@ -3,7 +3,7 @@
 use mathlib.Core.Path.{◌≡◌, refl}
 use mathlib.Core.Bool.{Bool, true, false, cond, ◌&&◌}
 use mathlib.Core.List.{List, [], ◌∷◌, ◌++◌}
-use Prim.Native.Nat.{ℕ, zero, suc, ◌+◌, ◌-◌, ◌*◌, ◌≤◌, ◌<◌}
+use Prim.Native.Nat.{ℕ, zero, suc, ◌+◌, ◌*◌, ◌≤◌, ◌<◌}
 use native.Mathlib.Nat.{suc-mul, mul-le-mul_right}
 use native.Mathlib.Omega.{arith}
 use borrow.Author.Tests.{ltb-true}
@@ -28,7 +28,7 @@ use Rattle.quick.specs.declared.halving.Halved.{Halved}
 use Rattle.quick.specs.declared.halving.Halved.TheVariants.{Found, Place, Breach}
 use Rattle.quick.specs.Halving.{middle, by_order, halve, halves_of}
 use Rattle.quick.specs.Quick.{page_says}
-use Rattle.reads.specs.Reads.{middles, looks_at, Run, run, header_runs, number_runs, key_runs, element_runs, child_runs, block_runs, page_runs, onward_runs, descent_runs, reads_of}
+use Rattle.reads.specs.Reads.{middles, looks_at, Run, header_runs, number_runs, key_runs, element_runs, child_runs, block_runs, page_runs, onward_runs, descent_runs, reads_of}
 use Rattle.reads.proofs.RunLaws.{}
 
 -- ---- halving stays below n

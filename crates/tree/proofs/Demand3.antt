@@ -11,7 +11,7 @@ use native.Mathlib.Nat.{zero-add, sub-zero}
 use native.Mathlib.Omega.{arith}
 use lib.ListN.{length, get_or, take, drop, length-drop}
 use lib.Seq.{drop-drop, take-take, take-nil, length-take-le, get_or-take, get_or-drop, ext_get_or}
-use Rattle.page.specs.Layout.{count_of, overflow_of, is_leaf, value_at, value_size, value_of}
+use Rattle.page.specs.Layout.{count_of, overflow_of, value_at, value_size, value_of}
 use Rattle.page.specs.PageRules.{block_of}
 use Rattle.walk.specs.Tree.{Key, Item, View, bad, branch, leaf, Answer, refused, found, absent, lookup, same, seek_from, LeafEntry}
 use Rattle.walk.specs.Sound.{Sound}

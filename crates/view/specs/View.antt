@@ -1,7 +1,7 @@
 -- A page of an image, as the walk and the lookup view it: refused with a number, an element and the length of a common beginning, a branch's
 -- separators with their children, or a leaf's keys, each with what lookup tells of its entry; and the pages that its block takes up.
 -- Assumes nothing.
-use Rattle.std.specs.Prelude.{Bool, true, false, not, cond, ◌&&◌, List, [], ◌∷◌, ℕ, zero, suc, ◌+◌, ◌*◌, length, drop}
+use Rattle.std.specs.Prelude.{Bool, true, false, cond, ◌&&◌, List, [], ◌∷◌, ℕ, zero, suc, ◌+◌, ◌*◌, drop}
 use Rattle.page.specs.Layout.{count_of, overflow_of, is_leaf, page_of, kind_of, key_of, value_at, value_size}
 use Rattle.page.specs.PageRules.{after_check, header_bad, block_of, check_of}
 use Rattle.walk.specs.Tree.{Item, View, bad, branch, leaf}

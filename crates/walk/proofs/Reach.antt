@@ -9,7 +9,7 @@ use mathlib.Core.Option.{Option}
 use mathlib.Core.Logic.{◌⊎◌, inl, inr, ⊎_elim}
 use Rattle.walk.specs.Tree.{Key, Item, View, branch, leaf, At, memb, Distinct, Below, here, down, Used, LeafEntry}
 use Rattle.walk.specs.Listing.{Mem, Slot}
-use Rattle.walk.proofs.Slots.{mem_left, mem_right, mem_either, slots, slot_at, at_slot}
+use Rattle.walk.proofs.Slots.{mem_left, mem_right, mem_either, slot_at, at_slot}
 use Rattle.walk.proofs.Pages.{memb_left, memb_right, memb_either, distinct_append}
 use Rattle.walk.proofs.Walked.{Walked, WalkedAll, at_leaf, at_branch, done, more}
 

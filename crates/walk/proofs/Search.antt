@@ -1,6 +1,6 @@
 -- In a tree whose walk passes: all leaf keys lie within the range, the leaf entries in order are sorted, and a lookup is a search of them all from the front.
 -- Assumes what a page's own check has seen to, `Checked`.
-use Prim.Native.Nat.{ℕ, suc, ◌+◌}
+use Prim.Native.Nat.{ℕ, suc}
 use native.Mathlib.Omega.{arith}
 use mathlib.Core.Path.{◌≡◌, refl, sym, ◌∙◌}
 use mathlib.Core.List.{List, [], ◌∷◌, ◌++◌}

@@ -1,12 +1,11 @@
 use mathlib.Core.Path.{◌≡◌, refl, sym, ap, ◌∙◌}
-use Prim.Native.Nat.{◌-◌, ◌*◌}
+use Prim.Native.Nat.{◌*◌}
 use native.Mathlib.Omega.{arith}
 use lib.ListN.{length, get_or}
 use Rattle.field.specs.Field.{bytes_of}
 use Rattle.field.specs.Run.{put_at}
 use Rattle.field.proofs.FieldLaws.{length_bytes}
 use Rattle.field.proofs.RunLaws.{length-put}
-use Rattle.answer.specs.Answer.{fields}
 use Rattle.answer.proofs.AnswerLaws.{fields_turn, fields_none}
 use Rattle.answer.proofs.put_fields.Goals as goal
 

@@ -1,14 +1,11 @@
 use mathlib.Core.Path.{◌≡◌, refl, sym, ◌∙◌}
-use mathlib.Core.Bool.{Bool, true}
-use mathlib.Core.List.{List}
-use Prim.Native.Nat.{ℕ, ◌-◌}
+use mathlib.Core.Bool.{true}
+use Prim.Native.Nat.{◌-◌}
 use native.Mathlib.Omega.{arith}
 use lib.Dec.{eqb}
-use Rattle.walk.specs.Tree.{Key, inside}
-use Rattle.view.specs.View.{view_of}
+use Rattle.walk.specs.Tree.{inside}
 use Rattle.lookup.specs.declared.descent.Step.{Step}
 use Rattle.lookup.specs.Lookup.{lookup_of}
-use Rattle.lookup.specs.Step.{step_of}
 use Rattle.lookup.specs.Descent.{onward, descend}
 use Rattle.view.proofs.GeometryLaws.{inside_parts, geometry_sizes}
 use Rattle.lookup.proofs.LookupLaws.{looks_geometry, looks_down, deep, outside, turn}

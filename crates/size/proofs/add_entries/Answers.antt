@@ -1,4 +1,4 @@
-use Prim.Native.Nat.{◌+◌, ◌-◌}
+use Prim.Native.Nat.{◌+◌}
 use mathlib.Core.Path.{refl, ◌∙◌}
 use native.Mathlib.Omega.{arith}
 use Rattle.size.proofs.SizeLaws.{entries_next, entries_none, counted_most, counted_step, counted_end}

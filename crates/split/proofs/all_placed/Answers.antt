@@ -1,5 +1,5 @@
 use mathlib.Core.Path.{◌≡◌, sym, ap, ◌∙◌}
-use Prim.Native.Nat.{ℕ, ◌+◌, ◌-◌, ◌≤◌}
+use Prim.Native.Nat.{ℕ, ◌+◌, ◌≤◌}
 use native.Mathlib.Nat.{sub-zero}
 use borrow.Author.Rules.{rules}
 use native.Mathlib.Omega.{arith}
@@ -7,7 +7,6 @@ use lib.ListN.{length, get_or}
 use Rattle.field.specs.Marks.{with_marks, lowest_marked}
 use Rattle.field.proofs.MarkLaws.{length_none, length_withs}
 use Rattle.cuts.specs.Run.{pieces_after}
-use Rattle.split.specs.Write.{placed}
 use Rattle.split.proofs.WriteLaws.{inside_end}
 use Rattle.split.proofs.PlacedLaws.{placed_start, placed_out, placed_hit, placed_on, placed_done}
 use Rattle.split.proofs.all_placed.Goals as goal

@@ -1,6 +1,6 @@
 -- `write::all_placed` meets its contract. The loop's invariant: the pass over the rest of the list and the pieces from `c` on, with these marks,
 -- finds whether all are placed. The measure is what is left of the list. Assumes nothing.
-use mathlib.Core.Path.{◌≡◌, ap}
+use mathlib.Core.Path.{◌≡◌}
 use Prim.Native.Nat.{◌-◌, ◌≤◌}
 use lib.ListN.{length, drop}
 use Rattle.page.specs.Layout.{count_of}

@@ -1,4 +1,4 @@
-use Prim.Native.Nat.{◌+◌, ◌-◌}
+use Prim.Native.Nat.{◌+◌}
 use native.Mathlib.Omega.{arith}
 use Rattle.pack.specs.Plan.{range}
 use Rattle.size.proofs.SizeLaws.{size_least, size_next, size_none}

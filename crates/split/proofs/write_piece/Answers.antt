@@ -1,7 +1,6 @@
 -- `write::write_piece` meets its contract: what `cut` leaves in the part that it was lent, by `lent_run`. Assumes nothing.
 use mathlib.Core.Path.{sym, ap, ◌∙◌}
 use mathlib.Core.List.{List}
-use Prim.Native.Nat.{◌-◌}
 use borrow.Author.Rules.{rules}
 use native.Mathlib.Omega.{arith}
 use lib.ListN.{length}

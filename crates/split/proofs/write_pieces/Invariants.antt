@@ -5,7 +5,6 @@ use Prim.Native.Nat.{◌+◌, ◌-◌, ◌≤◌}
 use lib.ListN.{length, drop}
 use Rattle.field.specs.Run.{put_at}
 use Rattle.page.specs.Layout.{count_of}
-use Rattle.pack.specs.Pack.{pack}
 use Rattle.cuts.specs.Run.{pieces_after}
 use Rattle.split.specs.Write.{spans_of, bytes_in, pack_all}
 use Rattle.split.proofs.write_pieces.Given as goal

@@ -4,7 +4,7 @@ use mathlib.Core.Bool.{true, false}
 use Prim.Native.Nat.{ℕ, ◌+◌, ◌-◌, ◌<◌}
 use native.Mathlib.Omega.{arith}
 use lib.Dec.{eqb}
-use lib.ListN.{length, get_or, drop, length-map}
+use lib.ListN.{length, get_or, drop}
 use Rattle.page.specs.Layout.{count_of}
 use Rattle.page.specs.PageRules.{block_of}
 use Rattle.path.specs.Path.{step, end, neighbour}

@@ -3,7 +3,7 @@
 use mathlib.Core.Path.{◌≡◌}
 use Prim.Native.Nat.{◌-◌, ◌≤◌}
 use lib.Dec.{eqb}
-use lib.ListN.{length, drop}
+use lib.ListN.{drop}
 use Rattle.path.specs.Path.{end, neighbour}
 use Rattle.view.specs.View.{view_of}
 use Rattle.cursor.specs.Cursor.{path_of}

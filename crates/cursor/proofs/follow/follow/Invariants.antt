@@ -4,8 +4,8 @@ use mathlib.Core.Path.{◌≡◌}
 use mathlib.Core.Bool.{true}
 use Prim.Native.Nat.{◌-◌, ◌≤◌}
 use lib.Dec.{eqb}
-use lib.ListN.{length, take, drop}
-use Rattle.path.specs.Path.{step, follow}
+use lib.ListN.{take, drop}
+use Rattle.path.specs.Path.{follow}
 use Rattle.view.specs.View.{view_of}
 use Rattle.cursor.specs.Working.{followed_of}
 use Rattle.cursor.proofs.follow.follow.Given as goal

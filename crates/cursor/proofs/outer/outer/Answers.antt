@@ -1,11 +1,10 @@
 use mathlib.Core.Path.{◌≡◌, refl, sym, ap, ◌∙◌}
-use Prim.Native.Nat.{◌-◌, ◌*◌}
+use Prim.Native.Nat.{◌*◌}
 use native.Mathlib.Omega.{arith}
 use lib.Dec.{eqb}
-use lib.ListN.{length, take, set}
+use lib.ListN.{length, take}
 use Rattle.page.specs.PageRules.{block_of}
 use Rattle.page.proofs.RuleLaws.{sound_weaker}
-use Rattle.path.specs.Path.{step, at, end, refused, outer}
 use Rattle.view.specs.View.{value_item, view_of}
 use Rattle.cursor.specs.Cursor.{moved_of}
 use Rattle.cursor.specs.Working.{edge_of, under}

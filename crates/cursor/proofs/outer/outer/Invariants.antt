@@ -4,7 +4,7 @@ use mathlib.Core.Path.{◌≡◌}
 use Prim.Native.Nat.{◌-◌, ◌≤◌}
 use lib.Dec.{eqb}
 use lib.ListN.{take}
-use Rattle.path.specs.Path.{step, outer}
+use Rattle.path.specs.Path.{outer}
 use Rattle.view.specs.View.{view_of}
 use Rattle.cursor.specs.Working.{Clear, under}
 use Rattle.cursor.proofs.outer.outer.Given as goal

@@ -1,9 +1,8 @@
 use borrow.Author.Rules.{rules}
 use mathlib.Core.Path.{◌≡◌, refl, sym, ap, ◌∙◌}
 use mathlib.Core.List.{List, [], ◌∷◌, ◌++◌}
-use Prim.Native.Nat.{◌+◌, ◌-◌}
 use native.Mathlib.Omega.{arith}
-use lib.ListN.{length, get_or, take, length-map}
+use lib.ListN.{length, get_or}
 use Rattle.path.specs.declared.Step.{Step}
 use Rattle.path.specs.Path.{step}
 use Rattle.cursor.specs.Cursor.{cursor_of}

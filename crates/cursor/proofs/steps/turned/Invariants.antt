@@ -3,7 +3,6 @@
 use mathlib.Core.Path.{◌≡◌}
 use Prim.Native.Nat.{◌-◌, ◌≤◌}
 use lib.ListN.{take}
-use Rattle.path.specs.Path.{step}
 use Rattle.cursor.specs.Working.{Clear}
 use Rattle.cursor.proofs.steps.turned.Given as goal
 

@@ -2,7 +2,7 @@
 -- Assumes nothing.
 use mathlib.Core.Path.{◌≡◌}
 use Prim.Native.Nat.{◌≤◌, ◌*◌, ◌-◌}
-use Rattle.field.specs.Marks.{count_below, count}
+use Rattle.field.specs.Marks.{count_below}
 use Rattle.field.proofs.marks.count_marks.Given as goal
 
 abbrev pub invariant-loop-i : goal.invariant-loop-i

@@ -1,5 +1,5 @@
 use mathlib.Core.Path.{◌≡◌, refl, sym, ◌∙◌}
-use Prim.Native.Nat.{◌-◌, ◌/◌}
+use Prim.Native.Nat.{◌/◌}
 use native.Mathlib.Omega.{arith}
 use Rattle.field.proofs.MarkLaws.{word_told, lowest_here, lowest_next, lowest_done}
 use Rattle.field.proofs.marks.lowest_from.Goals as goal

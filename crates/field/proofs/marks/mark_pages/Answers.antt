@@ -1,7 +1,7 @@
 use mathlib.Core.Path.{refl, sym, ap, ◌∙◌}
 use Prim.Native.Nat.{ℕ, ◌-◌, ◌/◌}
 use native.Mathlib.Omega.{arith}
-use lib.ListN.{length, set, length-set}
+use lib.ListN.{set, length-set}
 use Rattle.field.specs.Marks.{with_marks}
 use Rattle.field.proofs.PartLaws.{marks_turn, marks_done}
 use Rattle.field.proofs.marks.mark_pages.Goals as goal

@@ -1,6 +1,5 @@
-use Prim.Native.Nat.{◌-◌}
 use mathlib.Core.Path.{sym}
-use mathlib.Core.Logic.{◌⊎◌, ⊎_elim}
+use mathlib.Core.Logic.{⊎_elim}
 use native.Mathlib.Omega.{arith}
 use Rattle.field.proofs.CommonLaws.{common_within, common_flip, common_more, common_ends}
 use Rattle.field.proofs.order.common_of.Goals as goal

@@ -2,8 +2,6 @@ use Prim.Native.Nat.{◌-◌}
 use mathlib.Core.Path.{sym, ap₂, ◌∙◌}
 use native.Mathlib.Omega.{arith}
 use lib.Dec.{ltb}
-use lib.ListN.{length}
-use Rattle.field.specs.Order.{common_of}
 use Rattle.field.proofs.FieldLaws.{Bytes}
 use Rattle.field.proofs.CommonLaws.{by_length}
 use Rattle.field.proofs.WordLaws.{parts_here, goes_on}

@@ -1,7 +1,6 @@
 use Prim.Native.Nat.{◌-◌}
 use mathlib.Core.Path.{sym}
 use native.Mathlib.Omega.{arith}
-use Rattle.field.specs.Order.{common_of}
 use Rattle.field.proofs.FieldLaws.{Bytes}
 use Rattle.field.proofs.CommonLaws.{ended}
 use Rattle.field.proofs.WordLaws.{lower_here, higher_here, goes_on}

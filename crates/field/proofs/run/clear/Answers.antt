@@ -1,7 +1,6 @@
-use Prim.Native.Nat.{◌-◌}
 use mathlib.Core.Path.{refl, sym, ◌∙◌}
 use native.Mathlib.Omega.{arith}
-use lib.ListN.{length, length-set}
+use lib.ListN.{length-set}
 use Rattle.field.proofs.RunLaws.{zero_turn, zero_done}
 use Rattle.field.proofs.run.clear.Goals as goal
 

@@ -1,5 +1,4 @@
 use mathlib.Core.Path.{refl, ◌∙◌}
-use Prim.Native.Nat.{◌-◌}
 use Rattle.freelist.proofs.WordLaws.{words_turn, words_end}
 use Rattle.freelist.proofs.check.words_pass.Goals as goal
 

@@ -1,8 +1,6 @@
 use mathlib.Core.Path.{sym, ap, ◌∙◌}
-use Prim.Native.Nat.{◌-◌}
 use native.Mathlib.Omega.{arith}
 use lib.ListN.{length}
-use Rattle.freelist.specs.Freelist.{listing}
 use Rattle.freelist.proofs.ListLaws.{listing_start, listing_few, count_next, count_skip, count_end}
 use Rattle.freelist.proofs.list.count_listed.Goals as goal
 

@@ -1,8 +1,6 @@
 use mathlib.Core.Path.{sym, ap, ◌∙◌}
-use Prim.Native.Nat.{◌-◌}
 use native.Mathlib.Omega.{arith}
 use Rattle.freelist.specs.Table.{is_in_use}
-use Rattle.freelist.specs.Freelist.{initial}
 use Rattle.freelist.proofs.ListLaws.{initial_start, initial_next, initial_low, initial_high, initial_taken, initial_end}
 use Rattle.freelist.proofs.list.is_initial.Goals as goal
 

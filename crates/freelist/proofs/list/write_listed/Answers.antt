@@ -1,9 +1,9 @@
 use mathlib.Core.Path.{refl, sym, ap, ◌∙◌}
-use Prim.Native.Nat.{◌+◌, ◌-◌, ◌≤◌}
+use Prim.Native.Nat.{◌+◌, ◌≤◌}
 use native.Mathlib.Omega.{arith}
 use lib.ListN.{length, length-set}
 use Rattle.field.specs.Run.{put_at}
-use Rattle.freelist.specs.Freelist.{listing, pages_list}
+use Rattle.freelist.specs.Freelist.{pages_list}
 use Rattle.freelist.proofs.ListLaws.{listing_start, count_next, count_skip, write_next, write_skip, write_end}
 use Rattle.freelist.proofs.list.write_listed.Goals as goal
 use Rattle.freelist.proofs.list.write_listed.Goals.{Then-is_listed}

@@ -1,5 +1,4 @@
 use mathlib.Core.Path.{◌≡◌, sym, ◌∙◌}
-use Prim.Native.Nat.{◌-◌}
 use native.Mathlib.Omega.{arith}
 use Rattle.freelist.specs.Table.{state_of, is_free}
 use Rattle.freelist.proofs.RunLaws.{free_bit_lem, scan_start, scan_found, scan_next, scan-end}

@@ -1,7 +1,6 @@
 use mathlib.Core.Path.{refl, sym, ◌∙◌}
-use Prim.Native.Nat.{◌-◌}
 use native.Mathlib.Omega.{arith}
-use lib.ListN.{length, length-set}
+use lib.ListN.{length-set}
 use Rattle.field.proofs.RunLaws.{zero_turn, zero_done}
 use Rattle.freelist.specs.Freelist.{new_table}
 use Rattle.freelist.proofs.table.clear_bits.Goals as goal

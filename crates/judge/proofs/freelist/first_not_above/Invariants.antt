@@ -1,7 +1,6 @@
 -- `judge::freelist::first_not_above` meets its contract. The loop's invariant: the first bad one of all is the first of those from `i` on. Assumes nothing.
 use Prim.Native.Nat.{◌-◌, ◌≤◌}
 use mathlib.Core.Path.{◌≡◌}
-use mathlib.Core.Bool.{not}
 use Rattle.page.specs.PageRules.{no_common, first_bad}
 use Rattle.judge.specs.Judge.{id_not_above}
 use Rattle.judge.proofs.freelist.first_not_above.Given as goal

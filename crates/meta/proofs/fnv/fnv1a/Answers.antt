@@ -1,4 +1,4 @@
-use Rattle.std.proofs.Common.{ℕ, ◌+◌, ◌-◌, length, drop, ap, ◌∙◌, arith, drop_of_length-le, rules}
+use Rattle.std.proofs.Common.{ℕ, ◌+◌, drop, ap, ◌∙◌, arith, drop_of_length-le, rules}
 use Rattle.meta.specs.Fnv.{hash_from, hash_step}
 use Rattle.meta.proofs.HashLaws.{slice_turn}
 use Rattle.meta.proofs.fnv.fnv1a.Goals as goal

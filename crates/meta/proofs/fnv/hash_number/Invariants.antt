@@ -1,5 +1,5 @@
 -- `meta::fnv::hash_number` meets its contract. The loop's invariant: the hash carried on over the bytes that are left is the number's. Assumes nothing.
-use Rattle.std.proofs.Common.{◌≡◌, ◌-◌, ◌≤◌}
+use Rattle.std.proofs.Common.{◌≡◌, ◌≤◌}
 use Rattle.field.specs.Field.{big_bytes_of}
 use Rattle.meta.specs.Fnv.{hash_from}
 use Rattle.meta.proofs.fnv.hash_number.Given as goal

@@ -2,7 +2,6 @@ use Prim.Native.Nat.{◌-◌}
 use mathlib.Core.Path.{refl, sym, ◌∙◌}
 use borrow.Author.Rules.{rules}
 use native.Mathlib.Omega.{arith}
-use Rattle.pack.specs.Pack.{bodies}
 use Rattle.pack.proofs.RangeLaws.{BodiesTurn, entry_room, bodies_turn, bodies_none, bodies_done}
 use Rattle.pack.proofs.write.copy_bodies.Goals as goal
 use Rattle.pack.proofs.write.copy_bodies.Goals.{After-body_end-end}

@@ -1,8 +1,5 @@
-use Prim.Native.Nat.{◌-◌}
 use mathlib.Core.Path.{refl, sym, ◌∙◌}
 use native.Mathlib.Omega.{arith}
-use Rattle.page.specs.Layout.{element_size}
-use Rattle.pack.specs.Pack.{table, bodies}
 use Rattle.pack.proofs.RangeLaws.{bodies_next, bodies_none, table_next, table_turn, table_done}
 use Rattle.pack.proofs.write.copy_table.Goals as goal
 

@@ -1,7 +1,6 @@
 -- `page::rules::check` meets its contract: rule 5, then the one pass, and where that meets a breach, the two. Assumes nothing.
 use mathlib.Core.Path.{◌≡◌, sym, ◌∙◌}
 use Prim.Native.Nat.{◌≤◌}
-use borrow.Author.Rules.{rules}
 use lib.ListN.{length}
 use Rattle.page.specs.Layout.{table_end}
 use Rattle.page.specs.PageRules.{elements_of, check_of}

@@ -1,8 +1,7 @@
-use Prim.Native.Nat.{◌+◌, ◌-◌, ◌/◌}
+use Prim.Native.Nat.{◌+◌, ◌/◌}
 use mathlib.Core.Path.{sym, ◌∙◌}
 use mathlib.Core.Bool.{true}
 use native.Mathlib.Omega.{arith}
-use Rattle.field.specs.declared.order.Order.TheVariants.{Lower, Higher}
 use Rattle.page.proofs.LayoutLaws.{element_room, twice_room}
 use Rattle.page.proofs.SearchLaws.{index_found, index_missing, before_equal, up_to_lower, from_higher_on}
 use Rattle.page.proofs.search.find.Goals as goal

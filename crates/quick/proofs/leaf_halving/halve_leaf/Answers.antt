@@ -1,12 +1,11 @@
 use mathlib.Core.Path.{◌≡◌, sym, ◌∙◌}
 use mathlib.Core.Bool.{true, false}
-use Prim.Native.Nat.{◌+◌, ◌-◌, ◌/◌, ◌<◌}
+use Prim.Native.Nat.{◌+◌, ◌/◌, ◌<◌}
 use native.Mathlib.Omega.{arith}
 use Rattle.page.specs.Layout.{count_of}
 use Rattle.page.specs.PageRules.{element_bad}
 use Rattle.page.proofs.LayoutLaws.{element_room}
 use Rattle.page.proofs.RuleLaws.{element_good}
-use Rattle.quick.specs.Halving.{middle, halve}
 use Rattle.quick.proofs.TurnLaws.{halfway, halves_all, halve_end, halve_breach, halve_equal, halve_lower, halve_higher}
 use Rattle.quick.proofs.leaf_halving.halve_leaf.Goals as goal
 use Rattle.quick.proofs.leaf_halving.halve_leaf.Goals.{Else-leaf_bad}
