@@ -1,27 +1,38 @@
 // Edits of branches, each answer printed, and a hash of the output's bytes after each.
 use super::show::{edited, holds};
 use branch::insert_branch;
+use std::io;
 
 // Prints what an insert in a branch answers.
-fn insert(b: &[u8], p: usize, has: bool, original: &[u8], key: &[u8], child: u64, out: &mut [u8]) {
+fn insert(
+    rt: &impl Print,
+    b: &[u8],
+    p: usize,
+    has: bool,
+    original: &[u8],
+    key: &[u8],
+    child: u64,
+    out: &mut [u8],
+) -> io::Result<()> {
     edited(
-        b"insert_branch",
+        rt,
+        "insert_branch",
         insert_branch(b, p, has, original, key, child, out),
-    );
-    holds(out);
+    )?;
+    holds(rt, out)
 }
 
 // Prints what edits of the branch of m answer: conflicts, a bad child, a replacement, and an output one byte short.
-pub fn branch_edits(b: &[u8], p: usize) {
+pub fn branch_edits(rt: &impl Print, b: &[u8], p: usize) -> io::Result<()> {
     let mut out = [165u8; 1024];
-    insert(b, p, false, b"", b"m", 9, &mut out);
-    insert(b, p, true, b"k", b"k", 9, &mut out);
-    insert(b, p, true, b"m", b"n", 1, &mut out);
-    insert(b, p, true, b"m", b"n", 9, &mut out);
+    insert(rt, b, p, false, b"", b"m", 9, &mut out)?;
+    insert(rt, b, p, true, b"k", b"k", 9, &mut out)?;
+    insert(rt, b, p, true, b"m", b"n", 1, &mut out)?;
+    insert(rt, b, p, true, b"m", b"n", 9, &mut out)?;
     let mut two = [165u8; 1024];
-    insert(b, p, false, b"", b"q", 9, &mut two);
-    insert(&two, p, true, b"q", b"a", 9, &mut out);
-    insert(&two, p, true, b"q", b"m", 9, &mut out);
+    insert(rt, b, p, false, b"", b"q", 9, &mut two)?;
+    insert(rt, &two, p, true, b"q", b"a", 9, &mut out)?;
+    insert(rt, &two, p, true, b"q", b"m", 9, &mut out)?;
     let mut short = [165u8; 1023];
-    insert(b, p, false, b"", b"q", 9, &mut short);
+    insert(rt, b, p, false, b"", b"q", 9, &mut short)
 }

@@ -12,6 +12,7 @@ use calls::{edits, new_nodes, on_block};
 use node::edit::{insert_data, new_branch, new_leaf};
 use show::{dump, edited, title};
 use splits::{large_split, splits};
+use std::io;
 
 // The bytes of one page, and of a block too large for a node.
 const PAGE: usize = 1024;
@@ -19,44 +20,46 @@ const PAGE: usize = 1024;
 const LARGE: usize = 1049600;
 
 // 01's page 5: a to xy, b to nothing.
-fn page_five() -> [u8; 1024] {
+fn page_five(rt: &impl Print) -> io::Result<[u8; 1024]> {
     let mut empty = [165u8; 1024];
-    edited(b"new_leaf", new_leaf(PAGE, 5, &mut empty));
+    edited(rt, "new_leaf", new_leaf(PAGE, 5, &mut empty))?;
     let mut one = [165u8; 1024];
     edited(
-        b"insert_data a",
+        rt,
+        "insert_data a",
         insert_data(&empty, PAGE, b"a", 0, b"xy", &mut one),
-    );
+    )?;
     let mut two = [165u8; 1024];
     edited(
-        b"insert_data b",
+        rt,
+        "insert_data b",
         insert_data(&one, PAGE, b"b", 0, b"", &mut two),
-    );
-    two
+    )?;
+    Ok(two)
 }
 
 // Prints the answers to the block with another type, count, kind and key, each breaking one rule.
-fn broken(page: [u8; 1024]) {
-    title(b"type 3");
+fn broken(rt: &impl Print, page: [u8; 1024]) -> io::Result<()> {
+    title(rt, "type 3")?;
     let mut typed = page;
     typed[8] = 3;
-    on_block(&typed, PAGE);
-    title(b"overflow 1");
+    on_block(rt, &typed, PAGE)?;
+    title(rt, "overflow 1")?;
     let mut longer = page;
     longer[24] = 1;
-    on_block(&longer, PAGE);
-    title(b"count 32");
+    on_block(rt, &longer, PAGE)?;
+    title(rt, "count 32")?;
     let mut counted = page;
     counted[16] = 32;
-    on_block(&counted, PAGE);
-    title(b"kind 2 in element 1");
+    on_block(rt, &counted, PAGE)?;
+    title(rt, "kind 2 in element 1")?;
     let mut kind = page;
     kind[64] = 2;
-    on_block(&kind, PAGE);
-    title(b"equal keys");
+    on_block(rt, &kind, PAGE)?;
+    title(rt, "equal keys")?;
     let mut equal = page;
     equal[99] = 97;
-    on_block(&equal, PAGE);
+    on_block(rt, &equal, PAGE)
 }
 
 // A leaf of two entries, the second above a node's limit: 1,025 pages, with a value of 1,049,000 bytes.
@@ -79,39 +82,39 @@ fn large_leaf() -> [u8; 1049600] {
 }
 
 // Prints the answers to a branch of one entry.
-fn branch() {
+fn branch(rt: &impl Print) -> io::Result<()> {
     let mut out = [165u8; 1024];
-    edited(b"new_branch", new_branch(PAGE, 6, b"m", 7, &mut out));
-    dump(&out[0..64]);
-    on_block(&out, PAGE);
-    branch_edits(&out, PAGE);
+    edited(rt, "new_branch", new_branch(PAGE, 6, b"m", 7, &mut out))?;
+    dump(rt, &out[0..64])?;
+    on_block(rt, &out, PAGE)?;
+    branch_edits(rt, &out, PAGE)
 }
 
 // Prints the answers to a block above a node's limit, and to keys and values above it.
-fn too_large(page: &[u8]) {
+fn too_large(rt: &impl Print, page: &[u8]) -> io::Result<()> {
     let large = large_leaf();
-    title(b"large");
-    on_block(&large, PAGE);
-    title(b"arguments");
-    edits(page, PAGE, &large);
-    new_nodes(&large);
-    large_split(&large);
+    title(rt, "large")?;
+    on_block(rt, &large, PAGE)?;
+    title(rt, "arguments")?;
+    edits(rt, page, PAGE, &large)?;
+    new_nodes(rt, &large)?;
+    large_split(rt, &large)
 }
 
 // Prints the example, the answers to it, to a branch, to what breaks the rules and to what is too large.
-fn main() {
-    let page = page_five();
-    dump(&page);
-    title(b"page 5");
-    on_block(&page, PAGE);
-    title(b"page size 1000");
-    on_block(&page, 1000);
-    title(b"1023 bytes");
-    on_block(&page[0..1023], PAGE);
-    broken(page);
-    title(b"branch");
-    branch();
-    title(b"split");
-    splits();
-    too_large(&page);
+fn main(rt: HostRuntime) -> io::Result<()> {
+    let page = page_five(&rt)?;
+    dump(&rt, &page)?;
+    title(&rt, "page 5")?;
+    on_block(&rt, &page, PAGE)?;
+    title(&rt, "page size 1000")?;
+    on_block(&rt, &page, 1000)?;
+    title(&rt, "1023 bytes")?;
+    on_block(&rt, &page[0..1023], PAGE)?;
+    broken(&rt, page)?;
+    title(&rt, "branch")?;
+    branch(&rt)?;
+    title(&rt, "split")?;
+    splits(&rt)?;
+    too_large(&rt, &page)
 }

@@ -3,6 +3,7 @@ use super::show::{holds, list, parted, written};
 use cuts::split;
 use node::edit::{insert_data, new_leaf};
 use split::split_write;
+use std::io;
 
 // 01's leaf of 1,024 bytes: five entries with payloads 164, 165, 165, 165, 165.
 fn five() -> [u8; 1024] {
@@ -23,47 +24,54 @@ fn five() -> [u8; 1024] {
 }
 
 // Prints what writing the leaf's pieces to two pages answers.
-fn write_two(b: &[u8], n: usize, first: u64, second: u64, out: &mut [u8]) {
+fn write_two(
+    rt: &impl Print,
+    b: &[u8],
+    n: usize,
+    first: u64,
+    second: u64,
+    out: &mut [u8],
+) -> io::Result<()> {
     let mut pages = [first; 2];
     pages[1] = second;
-    written(split_write(b, 1024, n, &pages, out));
-    holds(out);
+    written(rt, split_write(b, 1024, n, &pages, out))?;
+    holds(rt, out)
 }
 
 // Prints what splitting the leaf answers with a list of no room.
-fn no_room(b: &[u8], cuts: &mut [u64]) {
-    parted(split(b, 1024, &mut cuts[0..0]));
+fn no_room(rt: &impl Print, b: &[u8], cuts: &mut [u64]) -> io::Result<()> {
+    parted(rt, split(b, 1024, &mut cuts[0..0]))
 }
 
 // Prints what writing the leaf's pieces answers: page numbers that are wrong, an output one byte short, and pages 9 and 8.
-fn writes(leaf: &[u8]) {
+fn writes(rt: &impl Print, leaf: &[u8]) -> io::Result<()> {
     let mut out = [165u8; 2064];
     let pages = [8u64; 1];
-    written(split_write(leaf, 1024, 32, &pages, &mut out));
-    write_two(leaf, 1, 8, 9, &mut out);
-    write_two(leaf, 32, 8, 8, &mut out);
-    write_two(leaf, 32, 1, 8, &mut out);
-    write_two(leaf, 32, 31, 32, &mut out);
+    written(rt, split_write(leaf, 1024, 32, &pages, &mut out))?;
+    write_two(rt, leaf, 1, 8, 9, &mut out)?;
+    write_two(rt, leaf, 32, 8, 8, &mut out)?;
+    write_two(rt, leaf, 32, 1, 8, &mut out)?;
+    write_two(rt, leaf, 32, 31, 32, &mut out)?;
     let mut short = [165u8; 2047];
-    write_two(leaf, 32, 9, 8, &mut short);
-    write_two(leaf, 32, 9, 8, &mut out);
+    write_two(rt, leaf, 32, 9, 8, &mut short)?;
+    write_two(rt, leaf, 32, 9, 8, &mut out)
 }
 
 // Prints what splitting the leaf answers, and what the list then holds.
-pub fn splits() {
+pub fn splits(rt: &impl Print) -> io::Result<()> {
     let leaf = five();
     let mut cuts = [7u64; 2];
-    no_room(&leaf, &mut cuts);
-    list(&cuts);
-    parted(split(&leaf, 1024, &mut cuts));
-    list(&cuts);
-    writes(&leaf);
+    no_room(rt, &leaf, &mut cuts)?;
+    list(rt, &cuts)?;
+    parted(rt, split(&leaf, 1024, &mut cuts))?;
+    list(rt, &cuts)?;
+    writes(rt, &leaf)
 }
 
 // Prints what writing a block above a node's limit answers, with room for it in the image.
-pub fn large_split(large: &[u8]) {
+pub fn large_split(rt: &impl Print, large: &[u8]) -> io::Result<()> {
     let pages = [8u64; 1];
     let mut out = [165u8; 1024];
-    written(split_write(large, 1024, 2000, &pages, &mut out));
-    holds(&out);
+    written(rt, split_write(large, 1024, 2000, &pages, &mut out))?;
+    holds(rt, &out)
 }

@@ -12,6 +12,8 @@ mod tally;
 use calls::{made_call, put_bytes};
 use record::{BLOCK, FIELDS, OUTPUT, answered, call, is_readable, part, record_end, unpack};
 use show::{differs, summary};
+use std::io;
+use std::io::Read;
 use tally::count;
 
 // What lent output holds before a call, a byte and a word.
@@ -67,42 +69,52 @@ fn is_replayed(r: &[u8], image: &[u8], table: &mut [u64]) -> bool {
 }
 
 // Replays one record and counts it; one of call 0 gives the image for those after it.
-fn replay(r: &[u8], which: u64, image: &mut [u8], table: &mut [u64], counts: &mut [u64]) {
+fn replay(
+    rt: &impl Print,
+    r: &[u8],
+    which: u64,
+    image: &mut [u8],
+    table: &mut [u64],
+    counts: &mut [u64],
+) -> io::Result<()> {
     if !is_readable(r) {
-        differs(which, 0);
+        differs(rt, which, 0)?;
         count(counts, 0, true);
-        return;
+        return Ok(());
     }
     let c = call(r);
     if c == 0 {
         put_bytes(part(r, BLOCK), image);
-        return;
+        return Ok(());
     }
     if is_replayed(r, image, table) {
         count(counts, c, false);
-        return;
+        return Ok(());
     }
-    differs(which, c);
+    differs(rt, which, c)?;
     count(counts, c, true);
+    Ok(())
 }
 
 // Replays the records of a file one after the other.
 fn replay_all(
+    rt: &impl Print,
     file: &[u8],
     record: &mut [u8],
     image: &mut [u8],
     table: &mut [u64],
     counts: &mut [u64],
-) {
+) -> io::Result<()> {
     let mut at = 0;
     let mut which = 0;
     while at < file.len() {
         let end = record_end(file, at);
         let n = unpack(&file[at..end], record);
         which = std::num::wrapping_add_u64(which, 1);
-        replay(&record[..n], which, image, table, counts);
+        replay(rt, &record[..n], which, image, table, counts)?;
         at = end;
     }
+    Ok(())
 }
 
 // A table with every page in use.
@@ -110,24 +122,24 @@ fn new_table() -> [u64; 33792] {
     [0u64; 33792]
 }
 
-// Replays a file and prints the counts.
-fn replay_file(file: &[u8]) {
-    let mut record = io::large_buffer();
-    let mut image = io::large_buffer();
-    let mut table = new_table();
-    let mut counts = [0u64; 50];
-    replay_all(file, &mut record, &mut image, &mut table, &mut counts);
-    summary(&counts);
+// Room for a record or an image.
+fn buffer() -> [u8; 65536] {
+    [0u8; 65536]
 }
 
-// Room for the file.
-fn file_buffer() -> [u8; 1572864] {
-    [0u8; 1572864]
+// Replays a file and prints the counts.
+fn replay_file(rt: &impl Print, file: &[u8]) -> io::Result<()> {
+    let mut record = buffer();
+    let mut image = buffer();
+    let mut table = new_table();
+    let mut counts = [0u64; 50];
+    replay_all(rt, file, &mut record, &mut image, &mut table, &mut counts)?;
+    summary(rt, &counts)
 }
 
 // Replays what standard input holds.
-fn main() {
-    let mut file = file_buffer();
-    let n = io::read_full(0, &mut file);
-    replay_file(&file[..n]);
+fn main(rt: HostRuntime) -> io::Result<()> {
+    let mut file = Vec::new(rt.alloc());
+    rt.reader().read_to_end(&mut file)?;
+    replay_file(&rt, file.as_slice())
 }

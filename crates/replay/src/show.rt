@@ -1,72 +1,57 @@
 // What is printed: the records that differ, then a line for each call, then the sums.
 use super::tally::{CALLS, counted};
-
-// Ends the line.
-fn end_line() {
-    io::write_all(1, b"\n");
-}
+use std::io;
 
 // Prints that a record differs, or with call 0 that it cannot be read.
-pub fn differs(which: u64, call: usize) {
-    io::write_all(1, b"record ");
-    io::print_decimal(1, which);
-    io::write_all(1, b" differs, call ");
-    io::print_decimal(1, call as u64);
-    end_line();
+pub fn differs(rt: &impl Print, which: u64, call: usize) -> io::Result<()> {
+    println!(rt; "record {which} differs, call {call}")
 }
 
 // Prints how many answers of a call were the same, and how many differ.
-fn row(counts: &[u64], call: usize, name: &[u8]) {
-    io::write_all(1, name);
-    io::write_all(1, b": ");
-    io::print_decimal(1, counted(counts, call, false));
-    io::write_all(1, b" same, ");
-    io::print_decimal(1, counted(counts, call, true));
-    io::write_all(1, b" differ");
-    end_line();
+fn row(rt: &impl Print, counts: &[u64], call: usize, name: &str) -> io::Result<()> {
+    let same = counted(counts, call, false);
+    let differing = counted(counts, call, true);
+    println!(rt; "{name}: {same} same, {differing} differ")
 }
 
 // Prints the rows of the calls on images and blocks.
-fn block_rows(counts: &[u64]) {
-    row(counts, 1, b"lookup");
-    row(counts, 2, b"judge");
-    row(counts, 3, b"index");
-    row(counts, 4, b"index_page");
-    row(counts, 5, b"size");
-    row(counts, 6, b"new_leaf");
-    row(counts, 7, b"new_branch");
-    row(counts, 8, b"insert");
-    row(counts, 9, b"delete");
-    row(counts, 10, b"insert_branch");
-    row(counts, 11, b"split");
-    row(counts, 12, b"split_write");
+fn block_rows(rt: &impl Print, counts: &[u64]) -> io::Result<()> {
+    row(rt, counts, 1, "lookup")?;
+    row(rt, counts, 2, "judge")?;
+    row(rt, counts, 3, "index")?;
+    row(rt, counts, 4, "index_page")?;
+    row(rt, counts, 5, "size")?;
+    row(rt, counts, 6, "new_leaf")?;
+    row(rt, counts, 7, "new_branch")?;
+    row(rt, counts, 8, "insert")?;
+    row(rt, counts, 9, "delete")?;
+    row(rt, counts, 10, "insert_branch")?;
+    row(rt, counts, 11, "split")?;
+    row(rt, counts, 12, "split_write")
 }
 
 // Prints the rows of the calls on tables and metas, and of the quick lookup, which came after them.
-fn table_rows(counts: &[u64]) {
-    row(counts, 13, b"free_new");
-    row(counts, 14, b"free_init");
-    row(counts, 15, b"free_pages");
-    row(counts, 16, b"release");
-    row(counts, 17, b"allocate");
-    row(counts, 18, b"free_list");
-    row(counts, 19, b"free_size");
-    row(counts, 20, b"meta_read");
-    row(counts, 21, b"meta_write");
-    row(counts, 22, b"fnv1a");
-    row(counts, 23, b"quick");
+fn table_rows(rt: &impl Print, counts: &[u64]) -> io::Result<()> {
+    row(rt, counts, 13, "free_new")?;
+    row(rt, counts, 14, "free_init")?;
+    row(rt, counts, 15, "free_pages")?;
+    row(rt, counts, 16, "release")?;
+    row(rt, counts, 17, "allocate")?;
+    row(rt, counts, 18, "free_list")?;
+    row(rt, counts, 19, "free_size")?;
+    row(rt, counts, 20, "meta_read")?;
+    row(rt, counts, 21, "meta_write")?;
+    row(rt, counts, 22, "fnv1a")?;
+    row(rt, counts, 23, "quick")
 }
 
 // Prints the counts of every call, of what could not be read, and the sums.
-pub fn summary(counts: &[u64]) {
-    block_rows(counts);
-    table_rows(counts);
-    row(counts, 0, b"not readable");
+pub fn summary(rt: &impl Print, counts: &[u64]) -> io::Result<()> {
+    block_rows(rt, counts)?;
+    table_rows(rt, counts)?;
+    row(rt, counts, 0, "not readable")?;
     let same = counted(counts, CALLS, false);
     let differing = counted(counts, CALLS, true);
-    io::print_decimal(1, std::num::wrapping_add_u64(same, differing));
-    io::write_all(1, b" answers, ");
-    io::print_decimal(1, differing);
-    io::write_all(1, b" differ");
-    end_line();
+    let answers = std::num::wrapping_add_u64(same, differing);
+    println!(rt; "{answers} answers, {differing} differ")
 }

@@ -2,110 +2,94 @@
 
 #![tactic(auto)]
 
-use field::number::byte_at;
 use meta::fnv::fnv1a;
 use meta::{Meta, MetaRead, MetaWritten, read_meta, write_meta};
-
-// Ends the line.
-fn end_line() {
-    io::write_all(1, b"\n");
-}
+use std::io;
 
 // Prints a text, in quotes, and its hash.
-fn vector(text: &[u8]) {
-    io::write_all(1, b"\"");
-    io::write_all(1, text);
-    io::write_all(1, b"\" ");
-    io::print_hex(1, fnv1a(text), 16);
-    end_line();
+fn vector(rt: &impl Print, text: &str) -> io::Result<()> {
+    println!(rt; "\"{text}\" {:016x}", fnv1a(text.as_bytes()))
 }
 
 // Prints a name and a number.
-fn line(name: &[u8], n: u64) {
-    io::write_all(1, name);
-    io::write_all(1, b" ");
-    io::print_decimal(1, n);
-    end_line();
+fn line(rt: &impl Print, name: &str, n: u64) -> io::Result<()> {
+    println!(rt; "{name} {n}")
 }
 
 // Prints a name and a hash.
-fn hash_line(name: &[u8], hash: u64) {
-    io::write_all(1, name);
-    io::write_all(1, b" ");
-    io::print_hex(1, hash, 16);
-    end_line();
+fn hash_line(rt: &impl Print, name: &str, hash: u64) -> io::Result<()> {
+    println!(rt; "{name} {hash:016x}")
 }
 
 // Prints the vectors of one letter and those up to foobar.
-fn short_vectors() {
-    vector(b"");
-    vector(b"a");
-    vector(b"b");
-    vector(b"c");
-    vector(b"d");
-    vector(b"e");
-    vector(b"f");
-    vector(b"fo");
-    vector(b"foo");
-    vector(b"foob");
-    vector(b"fooba");
-    vector(b"foobar");
+fn short_vectors(rt: &impl Print) -> io::Result<()> {
+    vector(rt, "")?;
+    vector(rt, "a")?;
+    vector(rt, "b")?;
+    vector(rt, "c")?;
+    vector(rt, "d")?;
+    vector(rt, "e")?;
+    vector(rt, "f")?;
+    vector(rt, "fo")?;
+    vector(rt, "foo")?;
+    vector(rt, "foob")?;
+    vector(rt, "fooba")?;
+    vector(rt, "foobar")
 }
 
 // Prints the vectors up to "chongo was here!", and hello.
-fn long_vectors() {
-    vector(b"ch");
-    vector(b"cho");
-    vector(b"chon");
-    vector(b"chong");
-    vector(b"chongo");
-    vector(b"chongo was");
-    vector(b"chongo was here");
-    vector(b"chongo was here!");
-    vector(b"hello");
+fn long_vectors(rt: &impl Print) -> io::Result<()> {
+    vector(rt, "ch")?;
+    vector(rt, "cho")?;
+    vector(rt, "chon")?;
+    vector(rt, "chong")?;
+    vector(rt, "chongo")?;
+    vector(rt, "chongo was")?;
+    vector(rt, "chongo was here")?;
+    vector(rt, "chongo was here!")?;
+    vector(rt, "hello")
 }
 
 // Prints the fields of a meta.
-fn print_meta(m: Meta) {
-    line(b"meta_page", m.meta_page as u64);
-    line(b"magic", m.magic as u64);
-    line(b"version", m.version as u64);
-    line(b"pagesize", m.pagesize);
-    line(b"root_page", m.root_page);
-    line(b"next_int", m.next_int);
-    line(b"num_pages", m.num_pages);
-    line(b"freelist_page", m.freelist_page);
-    line(b"tx_id", m.tx_id);
-    hash_line(b"hash", m.hash);
+fn print_meta(rt: &impl Print, m: Meta) -> io::Result<()> {
+    line(rt, "meta_page", m.meta_page as u64)?;
+    line(rt, "magic", m.magic as u64)?;
+    line(rt, "version", m.version as u64)?;
+    line(rt, "pagesize", m.pagesize)?;
+    line(rt, "root_page", m.root_page)?;
+    line(rt, "next_int", m.next_int)?;
+    line(rt, "num_pages", m.num_pages)?;
+    line(rt, "freelist_page", m.freelist_page)?;
+    line(rt, "tx_id", m.tx_id)?;
+    hash_line(rt, "hash", m.hash)
 }
 
 // Prints what reading the page answers.
-fn try_read(page: &[u8]) {
+fn try_read(rt: &impl Print, page: &[u8]) -> io::Result<()> {
     match read_meta(page) {
-        MetaRead::Read(m) => print_meta(m),
-        MetaRead::Refused(number) => line(b"read refused", number),
+        MetaRead::Read(m) => print_meta(rt, m),
+        MetaRead::Refused(number) => line(rt, "read refused", number),
     }
 }
 
 // Prints what writing to the page answers, and a hash of all its bytes afterwards.
-fn try_write(page: &mut [u8], m: Meta) {
+fn try_write(rt: &impl Print, page: &mut [u8], m: Meta) -> io::Result<()> {
     match write_meta(page, m) {
-        MetaWritten::Written(hash) => hash_line(b"written", hash),
-        MetaWritten::Refused(number) => line(b"write refused", number),
+        MetaWritten::Written(hash) => hash_line(rt, "written", hash)?,
+        MetaWritten::Refused(number) => line(rt, "write refused", number)?,
     }
-    hash_line(b"page", fnv1a(page));
+    hash_line(rt, "page", fnv1a(page))
 }
 
 // Prints the bytes in hexadecimal, sixteen to a line.
-fn dump(page: &[u8]) {
-    let mut i = 0;
-    while i < page.len() {
-        io::print_hex(1, byte_at(page, i), 2);
-        i += 1;
-        if i % 16 == 0 {
-            end_line();
+fn dump(rt: &impl Print, page: &[u8]) -> io::Result<()> {
+    for (i, byte) in page.iter().enumerate() {
+        print!(rt; "{byte:02x}")?;
+        if i % 16 == 15 {
+            println!(rt)?;
         }
     }
+    Ok(())
 }
 
 // A meta with a number in each field, and a hash that is not theirs.
@@ -125,32 +109,32 @@ fn sample() -> Meta {
 }
 
 // Prints that reading and writing refuse the page, and that it stays as it was.
-fn try_refused(page: &mut [u8]) {
-    hash_line(b"page", fnv1a(page));
-    try_read(page);
-    try_write(page, sample());
+fn try_refused(rt: &impl Print, page: &mut [u8]) -> io::Result<()> {
+    hash_line(rt, "page", fnv1a(page))?;
+    try_read(rt, page)?;
+    try_write(rt, page, sample())
 }
 
 // Prints the answers for the page with another hash, for it with another type, and for 103 bytes.
-fn refusals(page: [u8; 128]) {
+fn refusals(rt: &impl Print, page: [u8; 128]) -> io::Result<()> {
     let mut flipped = page;
     flipped[96] = flipped[96] ^ 255;
-    try_read(&flipped);
+    try_read(rt, &flipped)?;
     let mut leaf = page;
     leaf[8] = 2;
-    try_refused(&mut leaf);
+    try_refused(rt, &mut leaf)?;
     let mut short = [3u8; 103];
-    try_refused(&mut short);
+    try_refused(rt, &mut short)
 }
 
 // Prints the vectors, a meta page written and read back, and the refusals.
-fn main() {
-    short_vectors();
-    long_vectors();
+fn main(rt: HostRuntime) -> io::Result<()> {
+    short_vectors(&rt)?;
+    long_vectors(&rt)?;
     let mut page = [165u8; 128];
     page[8] = 3;
-    try_write(&mut page, sample());
-    dump(&page);
-    try_read(&page);
-    refusals(page);
+    try_write(&rt, &mut page, sample())?;
+    dump(&rt, &page)?;
+    try_read(&rt, &page)?;
+    refusals(&rt, page)
 }
