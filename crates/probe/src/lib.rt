@@ -1,4 +1,4 @@
-// The calls that are not the shard server's, as C functions over numbers and slices, for the comparison and tests only.
+// The calls that are not the shard server's, as C functions over numbers and slices, for the comparison and tests only, which `probe_c` exports.
 
 #![tactic(auto)]
 

@@ -1,4 +1,4 @@
-// The four calls of the shard server, as C functions over numbers and byte slices.
+// The four calls of the shard server, as C functions over numbers and byte slices, which `shard_c` exports.
 
 #![tactic(auto)]
 

@@ -5,12 +5,13 @@ use tyvarmos::Number;
 use crate::declarations::{body, field_counts, in_c, in_rattle, in_rust, Function};
 
 const SHARD: &str = include_str!("../../../../crates/shard/src/lib.rt");
+const EXPORTS: &str = include_str!("../../../../crates/shard_c/src/lib.rt");
 const HEADER: &str = include_str!("../../../../include/tyvarmos.h");
 const RAW: &str = include_str!("../../src/raw.rs");
 
 #[test]
 fn header_and_rust_declare_what_is_linked() {
-    let linked = in_rattle(SHARD);
+    let linked = in_rattle(EXPORTS);
     let names: Vec<&str> = linked.iter().map(|function| function.name.as_str()).collect();
     assert_eq!(names, ["tyvarmos_lookup", "tyvarmos_quick", "tyvarmos_judge", "tyvarmos_meta"]);
     assert_eq!(in_c(HEADER), linked);
@@ -30,12 +31,12 @@ fn a_changed_declaration_is_seen() {
         (in_rust, RAW, "page_size: u64, page_count: u64", "page_count: u64, page_size: u64"),
         (in_rust, RAW, "key: *const u8, key_len: usize", "key_len: usize, key: *const u8"),
         (in_rust, RAW, "answer: *mut u8", "answer: *const u8"),
-        (in_rattle, SHARD, "    p: usize,\n    n: usize,\n", "    n: usize,\n    p: usize,\n"),
-        (in_rattle, SHARD, "fn tyvarmos_meta", "fn tyvarmos_newest"),
+        (in_rattle, EXPORTS, "    p: usize,\n    n: usize,\n", "    n: usize,\n    p: usize,\n"),
+        (in_rattle, EXPORTS, "fn tyvarmos_meta", "fn tyvarmos_newest"),
     ];
     for (reader, text, from, to) in changes {
         assert!(text.contains(from), "{from}");
-        assert_ne!(reader(&text.replacen(from, to, 1)), in_rattle(SHARD), "{to}");
+        assert_ne!(reader(&text.replacen(from, to, 1)), in_rattle(EXPORTS), "{to}");
     }
 }
 

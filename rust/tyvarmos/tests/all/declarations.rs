@@ -13,7 +13,7 @@ const NAMES: [(&str, &str); 4] =
 
 /// The exported functions of a Rattle file. A slice is a start and a length.
 pub fn in_rattle(text: &str) -> Vec<Function> {
-    let declared = text.split("#[no_mangle]\npub extern \"C\" fn ").skip(1);
+    let declared = text.split("#[unsafe(no_mangle)]\npub extern \"C\" fn ").skip(1);
     declared.map(|rest| function(rest, rattle_parameter)).collect()
 }
 

@@ -3,24 +3,30 @@
 use crate::declarations::{body, field_counts};
 
 const PAPER: &str = include_str!("../../../../docs/PROBE.md");
-const SOURCES: [&str; 5] = [
-    include_str!("../../../../crates/probe/src/search.rt"),
-    include_str!("../../../../crates/probe/src/edits.rt"),
-    include_str!("../../../../crates/probe/src/splits.rt"),
-    include_str!("../../../../crates/probe/src/free.rt"),
-    include_str!("../../../../crates/probe/src/metas.rt"),
-];
+
+/// A file of exports, and the file of the functions that they call.
+macro_rules! sources {
+    ($name:literal) => {
+        (
+            include_str!(concat!("../../../../crates/probe_c/src/", $name)),
+            include_str!(concat!("../../../../crates/probe/src/", $name)),
+        )
+    };
+}
+
+const SOURCES: [(&str, &str); 5] =
+    [sources!("search.rt"), sources!("edits.rt"), sources!("splits.rt"), sources!("free.rt"), sources!("metas.rt")];
 
 /// A function's name, its parameters as one line, and how many fields its answer has.
 type Row = (String, String, usize);
 
-/// The exported functions of a Rattle file.
-fn rows(text: &str) -> Vec<Row> {
-    let declared = text.split("#[no_mangle]\npub extern \"C\" fn ").skip(1);
+/// The exported functions of a Rattle file, with the fields that the functions called write.
+fn rows((exports, called): (&str, &str)) -> Vec<Row> {
+    let declared = exports.split("#[unsafe(no_mangle)]\npub extern \"C\" fn ").skip(1);
     let row = |rest: &str| {
         let (name, rest) = rest.split_once('(').unwrap();
         let parameters: Vec<&str> = rest.split(')').next().unwrap().split_whitespace().collect();
-        (name.to_string(), parameters.join(" ").trim_end_matches(',').to_string(), fields(text, name))
+        (name.to_string(), parameters.join(" ").trim_end_matches(',').to_string(), fields(called, name))
     };
     declared.map(row).collect()
 }
