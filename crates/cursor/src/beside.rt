@@ -1,6 +1,6 @@
 // The entry beside that of a path.
 ghost use Rattle.std.specs.Prelude.{◌≡◌, true, ◌<◌, ◌≤◌};
-ghost use Rattle.path.specs.Path.{follow as followPath, neighbour as neighbourOf};
+ghost use Rattle.path.specs.Path.{follow as follow_path, neighbour as neighbour_of};
 ghost use Rattle.view.specs.Geometry.{SoundSizes};
 ghost use Rattle.view.specs.View.{view_of};
 ghost use Rattle.cursor.specs.declared.follow.Followed.TheVariants.{Stands};
@@ -73,8 +73,8 @@ pub fn neighbour(
     given: Cursor,
 ) -> Moved
     requires { SoundSizes image.now p n × (c.length ≤ 16)
-        × (followed_of (followPath n (view_of image.now p n) 16 true (root_of c) (path_of c)) ≡ Stands) }
-    ensures { result ≡ moved_of given (neighbourOf n (view_of image.now p n) way 16 true (root_of c) (path_of c)) }
+        × (followed_of (follow_path n (view_of image.now p n) 16 true (root_of c) (path_of c)) ≡ Stands) }
+    ensures { result ≡ moved_of given (neighbour_of n (view_of image.now p n) way 16 true (root_of c) (path_of c)) }
 {
     let steps = c.steps;
     let mut level = c.length;

@@ -1,6 +1,6 @@
 // A lent path, judged from the root down.
 ghost use Rattle.std.specs.Prelude.{◌≡◌, true, ◌≤◌};
-ghost use Rattle.path.specs.Path.{follow as followPath};
+ghost use Rattle.path.specs.Path.{follow as follow_path};
 ghost use Rattle.view.specs.Fault.{fault_at};
 ghost use Rattle.view.specs.Geometry.{SoundSizes};
 ghost use Rattle.view.specs.View.{view_of};
@@ -33,7 +33,7 @@ fn refused(number: u64, page: usize, element: usize, common: usize) -> Followed
 // Whether the path of a cursor leads from the root to an entry, each page on it judged.
 pub fn follow(image: &[u8], p: usize, n: usize, root: usize, c: Cursor) -> Followed
     requires { SoundSizes image.now p n × (c.length ≤ 16) }
-    ensures { result ≡ followed_of (followPath n (view_of image.now p n) 16 true root (path_of c)) }
+    ensures { result ≡ followed_of (follow_path n (view_of image.now p n) 16 true root (path_of c)) }
 {
     let steps = c.steps;
     let length = c.length;

@@ -1,6 +1,6 @@
 // The outermost entry below a page: the first, or going back the last.
 ghost use Rattle.std.specs.Prelude.{◌≡◌, ◌-◌, ◌<◌, ◌≤◌, eqb};
-ghost use Rattle.path.specs.Path.{outer as outerOf};
+ghost use Rattle.path.specs.Path.{outer as outer_of};
 ghost use Rattle.view.specs.Geometry.{SoundSizes};
 ghost use Rattle.view.specs.View.{view_of};
 ghost use Rattle.cursor.specs.Cursor.{path_of, moved_of};
@@ -34,7 +34,7 @@ pub fn outer(
 ) -> Moved
     requires { SoundSizes image.now p n × Clear made.steps made.length × (made.length ≤ 16) }
     ensures { result ≡ moved_of given (under (path_of made)
-        (outerOf n (view_of image.now p n) way (16 - made.length) (eqb made.length 0) page)) }
+        (outer_of n (view_of image.now p n) way (16 - made.length) (eqb made.length 0) page)) }
 {
     let mut steps = made.steps;
     let mut level = made.length;

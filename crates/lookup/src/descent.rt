@@ -2,7 +2,7 @@
 ghost use Rattle.std.specs.Prelude.{◌≡◌, true, false, ◌&&◌, ◌+◌, ◌^◌, ◌<◌, length};
 ghost use Rattle.page.specs.Layout.{count_of};
 ghost use Rattle.page.specs.PageRules.{SoundBlock};
-ghost use Rattle.walk.specs.Tree.{leaf as leafView, child_for};
+ghost use Rattle.walk.specs.Tree.{leaf as leaf_view, child_for};
 ghost use Rattle.view.specs.Geometry.{SoundSizes};
 ghost use Rattle.view.specs.View.{row, child_item, value_item, view_of};
 ghost use Rattle.lookup.specs.Step.{step_of};
@@ -35,7 +35,7 @@ fn child_for(b: &[u8], key: &[u8]) -> usize
 // What a sound leaf that starts at byte `start` of the image says of a key.
 fn seek(b: &[u8], start: usize, key: &[u8]) -> Step
     requires { SoundBlock true true b.now × (start + length b.now < 2 ^ 64) }
-    ensures { result ≡ step_of (leafView (row (value_item start b.now) (count_of b.now) 0)) key.now }
+    ensures { result ≡ step_of (leaf_view (row (value_item start b.now) (count_of b.now) 0)) key.now }
 {
     let place = find(b, true, count(b), key);
     if place.found {

@@ -10,7 +10,7 @@ use Rattle.field.specs.Sizes.{size_allowed}
 use Rattle.meta.specs.Meta.{read_of}
 use Rattle.meta.specs.declared.MetaRead.{MetaRead}
 use Rattle.meta.specs.declared.MetaRead.TheVariants.{Read, Refused as NotRead}
-use Rattle.newest.specs.Newest.{names_itself, lowest_size, own_size, ◌orSize◌, size_found}
+use Rattle.newest.specs.Newest.{names_itself, lowest_size, own_size, ◌or_size◌, size_found}
 
 -- ---- a turn of the search: the size that is looked at, or what is left
 module _ (image : List ℕ) (left P : ℕ) (more : 0 < left) where
@@ -31,7 +31,7 @@ size_none image zero P h = refl
 size_none image (suc left) P h = absurd (omega arith)
 
 -- ---- the first of two sizes
-pub first_size : (x y : ℕ) → (x ≡ 0 → ⊥) → x orSize y ≡ x
+pub first_size : (x y : ℕ) → (x ≡ 0 → ⊥) → x or_size y ≡ x
 first_size zero y h = absurd (h refl)
 first_size (suc x) y h = refl
 
@@ -58,7 +58,7 @@ own_allowed (Read m) = go (size_allowed m.pagesize) refl
     go false e h = absurd (h refl)
 own_allowed (NotRead number) = λ h. absurd (h refl)
 
-or_allowed : (x y : ℕ) → Allowed x → Allowed y → Allowed (x orSize y)
+or_allowed : (x y : ℕ) → Allowed x → Allowed y → Allowed (x or_size y)
 unfolding Allowed
 or_allowed zero y hx hy = hy
 or_allowed (suc x) y hx hy = hx

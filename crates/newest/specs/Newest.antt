@@ -48,15 +48,15 @@ unfoldable pub lowest_size : List ℕ → ℕ → ℕ → ℕ
 lowest_size image zero P = 0
 lowest_size image (suc left) P = cond (names_itself image P) P (lowest_size image left (P + 8))
 
-infix 25 ◌orSize◌
+infix 25 ◌or_size◌
 -- the first size, and where that is 0 the second
-abbrev pub ◌orSize◌ : ℕ → ℕ → ℕ
-zero orSize other = other
-suc size orSize other = suc size
+abbrev pub ◌or_size◌ : ℕ → ℕ → ℕ
+zero or_size other = other
+suc size or_size other = suc size
 
 -- page 0's own, and else the lowest of the 8,065 allowed ones, 1,024 to 65,536; 0 where there is none
 unfoldable pub size_found : List ℕ → ℕ
-size_found image = own_size (read_of image) orSize lowest_size image 8065 1024
+size_found image = own_size (read_of image) or_size lowest_size image 8065 1024
 
 -- page 0's number where no page size is found: 11 where it reads
 abbrev pub no_size : MetaRead → ℕ
@@ -74,7 +74,7 @@ newest_of image p =
 
 -- the page size used: the one that is given, or with 0 the one that is found
 unfoldable pub size_used : List ℕ → ℕ → ℕ
-size_used image p = p orSize size_found image
+size_used image p = p or_size size_found image
 
 -- the number of an answer, and its fields: the page that the meta was taken from, pagesize, root_page, next_int, num_pages, freelist_page, tx_id
 abbrev pub newest_fields : Newest → List ℕ

@@ -4,7 +4,7 @@
 
 ghost use Rattle.std.specs.Prelude.{◌≡◌, drop};
 ghost use Rattle.meta.specs.Meta.{read_of};
-ghost use Rattle.newest.specs.Newest.{counts, newer as newerOf, newest_at, own_size, names_itself, lowest_size, size_found, no_size, newest_of};
+ghost use Rattle.newest.specs.Newest.{counts, newer as newer_of, newest_at, own_size, names_itself, lowest_size, size_found, no_size, newest_of};
 
 use field::sizes::size_allowed;
 use meta::{Meta, MetaRead, read_meta};
@@ -50,7 +50,7 @@ fn counted(image: &[u8], at: usize, p: usize) -> MetaRead
 
 // The newer of two metas that count, the second at a tie; the one that counts; or the first one's number.
 fn newer(first: MetaRead, second: MetaRead) -> Newest
-    ensures { result ≡ newerOf first second }
+    ensures { result ≡ newer_of first second }
 {
     match first {
         MetaRead::Read(a) => match second {

@@ -2,7 +2,7 @@
 ghost use Rattle.std.specs.Prelude.{◌≡◌, true, false, not, ◌||◌, ℕ, ◌+◌, ◌-◌, ◌^◌, ◌<◌, ◌≤◌, length};
 ghost use Rattle.page.specs.Layout.{count_of, is_branch, is_leaf, element_at, table_end, value_at};
 ghost use Rattle.page.specs.PageRules.{no_common, first_bad, header_bad, table_bad, element_bad, key_bad, common_before, kind_bad, is_sound, elements_of, check_of, length_bad, lent_header_bad, lent_check_of};
-ghost use Rattle.page.specs.PageRules.{outside as outsideOf};
+ghost use Rattle.page.specs.PageRules.{outside as outside_of};
 
 use super::branch_pass::branch_keeps;
 use super::layout::{
@@ -78,7 +78,7 @@ pub fn kind_bad(kind: u8, size: usize) -> bool
 // Whether a key and a value of these sizes, `pos` after `at`, start before `from` or end past `to`.
 pub fn outside(from: usize, to: usize, at: usize, pos: usize, key: usize, value: usize) -> bool
     requires { (at ≤ from) × (from ≤ to) }
-    ensures { result ≡ outsideOf from to (at + pos) (at + pos + key + value) }
+    ensures { result ≡ outside_of from to (at + pos) (at + pos + key + value) }
 {
     if pos < from - at {
         return true;

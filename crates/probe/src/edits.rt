@@ -5,7 +5,7 @@ ghost use Rattle.page.specs.Layout.{id_of};
 ghost use Rattle.node.specs.Numbers.{edited_fields, deleted_fields, unsized_fields, sized_fields};
 ghost use Rattle.node.specs.Measure.{size_of, needs_merging_of};
 ghost use Rattle.node.specs.Edit.{output, new_leaf_of, new_branch_of, insert_of, delete_of, deleted_answer, insert_branch_of};
-ghost use Rattle.node.specs.Edit.{answer as editedOf};
+ghost use Rattle.node.specs.Edit.{answer as edited_of};
 ghost use Rattle.probe.specs.Probe.{DeletedOrdered};
 
 use answer::give;
@@ -109,8 +109,8 @@ pub extern "C" fn tyvarmos_size(block: &[u8], p: usize, answer: &mut [u8]) -> u6
 // The number of `new_leaf`'s answer, whose fields stand in `answer`: bytes written, page, element, common.
 #[unsafe(no_mangle)]
 pub extern "C" fn tyvarmos_new_leaf(p: usize, id: u64, out: &mut [u8], answer: &mut [u8]) -> u64
-    ensures { (result ≡ told_number (edited_fields (editedOf true p (new_leaf_of p out.old))) answer.old)
-        × (answer.new ≡ told_answer (edited_fields (editedOf true p (new_leaf_of p out.old))) answer.old)
+    ensures { (result ≡ told_number (edited_fields (edited_of true p (new_leaf_of p out.old))) answer.old)
+        × (answer.new ≡ told_answer (edited_fields (edited_of true p (new_leaf_of p out.old))) answer.old)
         × (out.new ≡ lent_with 4 answer.old out.old (output true id p out.old (new_leaf_of p out.old))) }
 {
     if answer.len() / 8 < EDITED_FIELDS {
@@ -130,8 +130,8 @@ pub extern "C" fn tyvarmos_new_branch(
     out: &mut [u8],
     answer: &mut [u8],
 ) -> u64
-    ensures { (result ≡ told_number (edited_fields (editedOf false p (new_branch_of p key.now child out.old))) answer.old)
-        × (answer.new ≡ told_answer (edited_fields (editedOf false p (new_branch_of p key.now child out.old))) answer.old)
+    ensures { (result ≡ told_number (edited_fields (edited_of false p (new_branch_of p key.now child out.old))) answer.old)
+        × (answer.new ≡ told_answer (edited_fields (edited_of false p (new_branch_of p key.now child out.old))) answer.old)
         × (out.new ≡ lent_with 4 answer.old out.old (output false id p out.old (new_branch_of p key.now child out.old))) }
 {
     if answer.len() / 8 < EDITED_FIELDS {
@@ -162,8 +162,8 @@ pub extern "C" fn tyvarmos_insert(
     out: &mut [u8],
     answer: &mut [u8],
 ) -> u64
-    ensures { (result ≡ told_number (edited_fields (editedOf true p (insert_of p block.now key.now kind value.now out.old))) answer.old)
-        × (answer.new ≡ told_answer (edited_fields (editedOf true p (insert_of p block.now key.now kind value.now out.old))) answer.old)
+    ensures { (result ≡ told_number (edited_fields (edited_of true p (insert_of p block.now key.now kind value.now out.old))) answer.old)
+        × (answer.new ≡ told_answer (edited_fields (edited_of true p (insert_of p block.now key.now kind value.now out.old))) answer.old)
         × (out.new ≡ lent_with 4 answer.old out.old
         (output true (id_of block.now) p out.old (insert_of p block.now key.now kind value.now out.old))) }
 {
@@ -208,9 +208,9 @@ pub extern "C" fn tyvarmos_insert_branch(
     out: &mut [u8],
     answer: &mut [u8],
 ) -> u64
-    ensures { (result ≡ told_number (edited_fields (editedOf false p
+    ensures { (result ≡ told_number (edited_fields (edited_of false p
         (insert_branch_of p block.now (not (eqb has 0)) original.now key.now child out.old))) answer.old)
-        × (answer.new ≡ told_answer (edited_fields (editedOf false p
+        × (answer.new ≡ told_answer (edited_fields (edited_of false p
         (insert_branch_of p block.now (not (eqb has 0)) original.now key.now child out.old))) answer.old)
         × (out.new ≡ lent_with 4 answer.old out.old (output false (id_of block.now) p out.old
         (insert_branch_of p block.now (not (eqb has 0)) original.now key.now child out.old))) }

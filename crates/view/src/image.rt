@@ -2,7 +2,7 @@
 ghost use Rattle.std.specs.Prelude.{◌≡◌, false, ◌+◌, ◌*◌, ◌≤◌, ◌<◌, length, drop};
 ghost use Rattle.page.specs.Layout.{overflow_of};
 ghost use Rattle.page.specs.PageRules.{block_of};
-ghost use Rattle.walk.specs.Tree.{inside as insideOf};
+ghost use Rattle.walk.specs.Tree.{inside as inside_of};
 ghost use Rattle.view.specs.Geometry.{SoundSizes};
 ghost use Rattle.view.specs.Geometry.{geometry_bad};
 
@@ -24,7 +24,7 @@ pub fn geometry_bad(image: &[u8], p: usize, n: usize) -> bool
 
 // Whether a page number is one of 2 to n - 1.
 pub fn inside(n: usize, q: usize) -> bool
-    ensures { result ≡ insideOf n q }
+    ensures { result ≡ inside_of n q }
 {
     if q < 2 {
         return false;
