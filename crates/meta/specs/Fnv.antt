@@ -1,5 +1,5 @@
 -- FNV-1a at 64 bits, by the public rule: the hash starts at the basis; for each byte it is xored with the byte and then multiplied by the prime, modulo 2 ^ 64.
--- `bit_xor` goes by the binary digits of two numbers: a digit of the result is 1 where the two digits differ (`lib.Bits`).
+-- `bit_xor` goes by the binary digits of two numbers: a digit of the result is 1 where the two digits differ.
 -- Assumes nothing.
 use Rattle.std.specs.Prelude.{ℕ, ◌*◌, ◌%◌, ◌^◌, List, [], ◌∷◌, bit_xor}
 

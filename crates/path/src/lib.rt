@@ -1,8 +1,8 @@
 // A cursor's path through a tree of pages, over pages as they are viewed: its types, definitions in specs/ and theorems in proofs/, and no code.
-// Which way a cursor moves: to the entry after its own, or to the one before.
 
 #![tactic(auto)]
 
+// Which way a cursor moves: to the entry after its own, or to the one before.
 #[derive(Clone, Copy)]
 pub enum Direction {
     Onward,

@@ -62,7 +62,7 @@ const ARGUMENTS: usize = 9;
 const PARTS: usize = 5;
 const HEAD: usize = 8 * (3 + ARGUMENTS + PARTS);
 
-/// The program's buffers: for a file, a record or an image, output of bytes, output of words.
+/// The most bytes of a file, which stands in the repository, and the program's buffers: for a record or an image, output of bytes, output of words.
 const FILE: usize = 1_572_864;
 const RECORD: usize = 65_536;
 const OUT: usize = 32_768;
@@ -118,7 +118,7 @@ impl Tape {
         let packed = packed(&record.bytes());
         self.bytes.extend((packed.len() as u64).to_le_bytes());
         self.bytes.extend(packed);
-        assert!(self.bytes.len() < FILE, "the file is too long for the program");
+        assert!(self.bytes.len() < FILE, "the file is too long");
         if record.call != Call::Image {
             self.counts[record.call as usize] += 1;
         }
