@@ -31,9 +31,9 @@
  * Threads:   The calls keep no state, allocate nothing and make no system call. Any number of threads may call them, on
  *            the same bytes too, as long as nobody writes to these. If another process changes a mapped file, that is a
  *            write: read the file into memory where it may happen.
- * Stack:     The judge calls itself once for each level of the tree, 16 at most, and used 144,184 bytes for the deepest;
- *            TYVARMOS_JUDGE_STACK leaves room. A thread's default may be less: musl's is 131,072. The others used less
- *            than 1,024.
+ * Stack:     The judge calls itself for each level of the tree, 16 at most, and used less than 20,000 bytes for the
+ *            deepest; TYVARMOS_JUDGE_STACK is more than enough, and so is a thread's default, musl's 131,072 too. The
+ *            others used less than 1,024.
  * Time:      Lookup reads the blocks on the way to the key, the judge every block of the tree, each once. Quick reads
  *            little of each block on the way.
  */

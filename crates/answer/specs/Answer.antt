@@ -2,6 +2,8 @@
 -- Assumes nothing.
 use Rattle.std.specs.Prelude.{Bool, cond, List, [], ◌∷◌, ◌++◌, ℕ, ◌*◌, ltb, length, drop}
 use Rattle.field.specs.Field.{bytes_of}
+use Rattle.field.specs.Refusal.{number_of}
+use Rattle.field.specs.declared.refusal.Refusal.TheVariants.{Geometry}
 
 -- u64 fields, one after the other
 unfoldable pub fields : List ℕ → List ℕ
@@ -14,7 +16,7 @@ too_short count answer = ltb (length answer) (8 * count)
 
 -- that is 1, and else the call's own number
 unfoldable pub number_with : ℕ → ℕ → List ℕ → ℕ
-number_with count number answer = cond (too_short count answer) 1 number
+number_with count number answer = cond (too_short count answer) (number_of Geometry) number
 
 -- such a buffer stays; in another the fields stand from byte 0 on, and bytes past them stay
 unfoldable pub answer_with : List ℕ → List ℕ → List ℕ

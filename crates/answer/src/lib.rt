@@ -6,6 +6,7 @@ ghost use Rattle.std.specs.Prelude.{◌≡◌, ◌*◌, ◌≤◌, length};
 ghost use Rattle.field.specs.Run.{put_at};
 ghost use Rattle.answer.specs.Answer.{fields, number_with, answer_with};
 
+use field::Refusal;
 use field::number::put_u64;
 
 // Puts the fields from byte 0 on.
@@ -13,10 +14,8 @@ fn put_fields(answer: &mut [u8], values: &[u64])
     requires { 8 * length values.now ≤ length answer.old }
     ensures { answer.new ≡ put_at answer.old 0 (fields values.now) }
 {
-    let mut i = 0;
-    while i < values.len() {
-        put_u64(answer, 8 * i, values[i]);
-        i += 1;
+    for (i, &value) in values.iter().enumerate() {
+        put_u64(answer, 8 * i, value);
     }
 }
 
@@ -26,7 +25,7 @@ pub fn give(answer: &mut [u8], number: u64, values: &[u64]) -> u64
         × (answer.new ≡ answer_with values.now answer.old) }
 {
     if answer.len() / 8 < values.len() {
-        return 1;
+        return u64::from(Refusal::Geometry);
     }
     put_fields(answer, values);
     number

@@ -9,16 +9,19 @@ use native.Mathlib.Numerals.{add-one}
 use native.Mathlib.Omega.{arith}
 use lib.ListN.{take, drop}
 use borrow.Author.Tests.{lt-ltb, le-ltb}
-use Rattle.field.specs.declared.order.Order.{Order}
-use Rattle.field.specs.declared.order.Order.TheVariants.{Lower, Equal, Higher}
-use Rattle.field.specs.Order.{order_of, is_lower, is_equal}
-use Rattle.field.proofs.OrderLaws.{order_refl, order_equal}
+use Rattle.std.specs.declared.cmp.Ordering.{Ordering}
+use Rattle.std.specs.declared.cmp.Ordering.TheVariants.{Less, Equal, Greater}
+use Rattle.field.specs.Order.{order_of}
+use Rattle.std.specs.Ordering.{is_lt, is_eq, is_le}
+use Rattle.field.proofs.OrderLaws.{order_refl, order_equal, lower_iff}
 use Rattle.page.specs.Layout.{Entry, count_of, key_of, entry_of, entries_from, entries_of}
-use Rattle.page.specs.PageRules.{SoundBlock}
+use Rattle.page.specs.PageRules.{breach, SoundBlock}
 use Rattle.page.proofs.SearchLaws.{before_equal}
 use Rattle.pack.specs.Plan.{replace_at}
-use Rattle.node.specs.Edit.{refused, written, inserted, present, replaced, in_order, replace_branch, add_branch}
+use Rattle.node.specs.Edit.{written, inserted, present, replaced, in_order, replace_branch, add_branch}
 use Rattle.node.specs.Neighbours.{not_above, not_below}
+use Rattle.std.specs.Prelude.{Err}
+use Rattle.field.specs.declared.refusal.Refusal.TheVariants.{Conflict}
 
 -- ---- tests
 or-true : (s : Bool) → (s || true) ≡ true
@@ -41,19 +44,19 @@ module _ (b key : List ℕ) where
   present_here (suc k) i zero l e = rw (rw add-zero at e)
   present_here (suc k) i (suc m) l e =
       let z : i + 1 + m ≡ i + suc m = omega arith in
-      rw (present_here k (i + 1) m (omega arith) (rw z e)) (or-true (is_equal (order_of (key_of false b i) key)))
+      rw (present_here k (i + 1) m (omega arith) (rw z e)) (or-true (is_eq (order_of (key_of false b i) key)))
 
   pub present_at : (i : ℕ) → i < count_of b → key_of false b i ≡ key → present key (entries_of false b) ≡ true
   unfolding entries_of
   present_at i l e = present_here (count_of b) 0 i l (rw (zero-add, e) (order_refl key))
 
-  differs : (j : ℕ) → (key_of false b j ≡ key → ⊥) → is_equal (order_of (key_of false b j) key) ≡ false
+  differs : (j : ℕ) → (key_of false b j ≡ key → ⊥) → is_eq (order_of (key_of false b j) key) ≡ false
   differs j n = go (order_of (key_of false b j) key) refl
     where
-      go : (o : Order) → order_of (key_of false b j) key ≡ o → is_equal (order_of (key_of false b j) key) ≡ false
-      go Lower e = rw e
+      go : (o : Ordering) → order_of (key_of false b j) key ≡ o → is_eq (order_of (key_of false b j) key) ≡ false
+      go Less e = rw e
       go Equal e = absurd (n (order_equal (key_of false b j) key e))
-      go Higher e = rw e
+      go Greater e = rw e
 
   absent_from : (k i : ℕ) → ((j : ℕ) → j < i + k → key_of false b j ≡ key → ⊥) → present key (entries_from false b k i) ≡ false
   unfolding present entries_from
@@ -66,7 +69,7 @@ module _ (b key : List ℕ) where
 
 -- ---- the entry in its place
 module _ (b original : List ℕ) (e : Entry) where
-  replaced_from : (k i m : ℕ) → m < k → ((j : ℕ) → i ≤ j → j < i + m → order_of (key_of false b j) original ≡ Lower)
+  replaced_from : (k i m : ℕ) → m < k → ((j : ℕ) → i ≤ j → j < i + m → order_of (key_of false b j) original ≡ Less)
       → order_of (key_of false b (i + m)) original ≡ Equal → replaced original e (entries_from false b k i) ≡ replace_at m e (entries_from false b k i)
   unfolding replaced entries_from
   replaced_from zero i m l low same = absurd (omega arith)
@@ -85,6 +88,15 @@ module _ (b original : List ℕ) (e : Entry) where
       replaced_from (count_of b) 0 i l (λ j p m. before_equal false true b s original i l q j (omega arith)) (rw zero-add q)
 
 -- ---- its neighbours
+-- a key that is not above another is one that the other is not lower than
+pub not_lower : (a b : List ℕ) → is_le (order_of a b) ≡ not (is_lt (order_of b a))
+not_lower a b = go (order_of a b) refl
+  where
+    go : (o : Ordering) → order_of a b ≡ o → is_le (order_of a b) ≡ not (is_lt (order_of b a))
+    go Less e = rw (e, (lower_iff a b).0 e)
+    go Equal e = rw (e, order_equal a b e, order_refl b)
+    go Greater e = rw (e, (lower_iff b a).1 e)
+
 module _ (b : List ℕ) (s : SoundBlock false true b) (e : Entry) where
   in_order_lem : (k i : ℕ) → i + k ≤ count_of b → in_order (entries_from false b k i) ≡ true
   unfolding in_order entries_from
@@ -94,16 +106,16 @@ module _ (b : List ℕ) (s : SoundBlock false true b) (e : Entry) where
 
   abbrev after : ℕ → ℕ → Bool
   after zero i = true
-  after (suc k) i = is_lower (order_of e.key (key_of false b i))
+  after (suc k) i = is_lt (order_of e.key (key_of false b i))
 
   abbrev before : ℕ → ℕ → Bool
   before zero i = true
-  before (suc m) i = is_lower (order_of (key_of false b (i + m)) e.key)
+  before (suc m) i = is_lt (order_of (key_of false b (i + m)) e.key)
 
   order_first : (k i : ℕ) → i + k ≤ count_of b → in_order (e ∷ entries_from false b k i) ≡ after k i
   unfolding in_order entries_from
   order_first zero i h = refl
-  order_first (suc k) i h = rw (in_order_lem (suc k) i h) (and-true (is_lower (order_of e.key (key_of false b i))))
+  order_first (suc k) i h = rw (in_order_lem (suc k) i h) (and-true (is_lt (order_of e.key (key_of false b i))))
 
   order_around : (m k i r : ℕ) → k ≡ m + r + 1 → i + k ≤ count_of b
       → in_order (take m (entries_from false b k i) ++ e ∷ drop (suc m) (entries_from false b k i)) ≡ (before m i && after r (i + m + 1))
@@ -147,12 +159,12 @@ module _ (b : List ℕ) (s : SoundBlock false true b) (e : Entry) where
 -- ---- what comes of each
 module _ (P : ℕ) (out b : List ℕ) (e : Entry) where
   pub replace_absent : (original : List ℕ) → present original (entries_of false b) ≡ false
-      → replace_branch P out original e (entries_of false b) ≡ refused 14 0 0
+      → replace_branch P out original e (entries_of false b) ≡ Err (breach Conflict 0 0)
   unfolding replace_branch
   replace_absent original h = rw h
 
   module _ (original : List ℕ) (s : SoundBlock false true b) (i : ℕ) (l : i < count_of b) (same : key_of false b i ≡ original) where
-    pub replace_breaks : (not_above b i e.key || not_below b i e.key) ≡ true → replace_branch P out original e (entries_of false b) ≡ refused 14 0 0
+    pub replace_breaks : (not_above b i e.key || not_below b i e.key) ≡ true → replace_branch P out original e (entries_of false b) ≡ Err (breach Conflict 0 0)
     unfolding replace_branch
     replace_breaks h = rw (present_at b original i l same, replaced_at b original e s i l same, order_kept b s e i l, h)
 
@@ -161,7 +173,7 @@ module _ (P : ℕ) (out b : List ℕ) (e : Entry) where
     unfolding replace_branch
     replace_goes h k = rw (present_at b original i l same, replaced_at b original e s i l same, order_kept b s e i l, h, k)
 
-  pub add_present : present e.key (entries_of false b) ≡ true → add_branch P out e (entries_of false b) ≡ refused 14 0 0
+  pub add_present : present e.key (entries_of false b) ≡ true → add_branch P out e (entries_of false b) ≡ Err (breach Conflict 0 0)
   unfolding add_branch
   add_present h = rw h
 

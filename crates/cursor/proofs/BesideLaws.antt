@@ -38,7 +38,7 @@ beside_none Back xs (suc i) h = absurd (let l = ltb-false 0 (suc i) h in omega a
 nth_there : {A : Type 0} (xs : List A) (i : ℕ) → i < length xs → nth xs i ≡ none → ⊥
 unfolding nth
 nth_there [] i l h = omega arith
-nth_there (x ∷ xs) zero l h = let z : ◌≡◌ {A = ℕ} 0 1 = cc in omega arith
+nth_there (x ∷ xs) zero l h = cc
 nth_there (x ∷ xs) (suc i) l h = nth_there xs i (omega arith) h
 
 outermost_none : {A : Type 0} (way : Direction) (xs : List A) → outermost way xs ≡ none → xs ≡ []
@@ -48,7 +48,7 @@ outermost_none {A = A} way (x ∷ xs) h = absurd (go way h)
   where
     unplaced : (i : ℕ) (o : Option A) → placed i o ≡ none → o ≡ none
     unplaced i none h = refl
-    unplaced i (some y) h = absurd (let z : ◌≡◌ {A = ℕ} 0 1 = cc in omega arith)
+    unplaced i (some y) h = absurd cc
 
     go : (w : Direction) → outermost w (x ∷ xs) ≡ none → ⊥
     go Onward h = nth_there (x ∷ xs) 0 (omega arith) (unplaced 0 (nth (x ∷ xs) 0) h)
@@ -119,7 +119,7 @@ module _ {P : Type 0} (N : ℕ) (view : ℕ → Bool → View P) (steps : List S
           (last_level es (rw (sym p) m) (rw j n) (over d), λ h. absurd (nothing (here (k + 1) h) d))
         where
           nothing : {x : Step} {xs : List Step} → drop (k + 1) path ≡ x ∷ xs → drop (k + 1) path ≡ [] → ⊥
-          nothing c d = let z : ◌≡◌ {A = ℕ} 0 1 = cc in omega arith
+          nothing c d = cc
 
           over : drop (k + 1) path ≡ [] → k + 1 ≡ size
           over d = go_on (ltb (k + 1) size) refl
@@ -197,9 +197,9 @@ module _ {P : Type 0} (N : ℕ) (view : ℕ → Bool → View P) (steps : List S
           put cs i out (refused r p j c) g = refl
 
           below_some : (s : Step) (m : Move P) → (m ≡ end → ⊥) → below s m ≡ end → ⊥
-          below_some s (at rest x) g h = let z : ◌≡◌ {A = ℕ} 0 1 = cc in omega arith
+          below_some s (at rest x) g h = cc
           below_some s end g h = g refl
-          below_some s (refused r p j c) g h = let z : ◌≡◌ {A = ℕ} 0 1 = cc in omega arith
+          below_some s (refused r p j c) g h = cc
 
           go : Level k e → (k < size → (Beside k ≡ end → ⊥) → Beside 0 ≡ under (take k steps) (Beside k)) → Beside 0 ≡ under (take (suc k) steps) (Beside (suc k))
           go (last_level es m n x) ih = absurd (omega arith)
@@ -224,17 +224,17 @@ module _ {P : Type 0} (N : ℕ) (view : ℕ → Bool → View P)
     (way : Direction)
   where
     below_end : (s : Step) (m : Move P) → below s m ≡ end → m ≡ end
-    below_end s (at rest x) h = absurd (let z : ◌≡◌ {A = ℕ} 0 1 = cc in omega arith)
+    below_end s (at rest x) h = absurd cc
     below_end s end h = refl
-    below_end s (refused r p i c) h = absurd (let z : ◌≡◌ {A = ℕ} 0 1 = cc in omega arith)
+    below_end s (refused r p i c) h = absurd cc
 
     entry-some : (q : ℕ) (es : List (Item P)) (o : Option (Placed (Item P))) → outermost way es ≡ o → entry_at q o ≡ end → es ≡ []
     entry-some q es none o h = outermost_none way es o
-    entry-some q es (some x) o h = absurd (let z : ◌≡◌ {A = ℕ} 0 1 = cc in omega arith)
+    entry-some q es (some x) o h = absurd cc
 
     pub outer_some : (d q : ℕ) → outer N view way d false q ≡ end → ⊥
     unfolding outer
-    outer_some zero q h = let z : ◌≡◌ {A = ℕ} 0 1 = cc in omega arith
+    outer_some zero q h = cc
     outer_some (suc d) q h = go (met N view q false) refl h (outer_some d)
       where
         child_some : (cs : List (Item ℕ)) (o : Option (Placed (Item ℕ))) → met N view q false ≡ branch cs → outermost way cs ≡ o → child_at (outer N view way d false) q o ≡ end
@@ -243,6 +243,6 @@ module _ {P : Type 0} (N : ℕ) (view : ℕ → Bool → View P)
         child_some cs (some c) m o h ih = ih c.item.value (below_end (step q c.index) (outer N view way d false c.item.value) h)
 
         go : (v : View P) → met N view q false ≡ v → outer_page way (outer N view way d false) v q ≡ end → ((c : ℕ) → outer N view way d false c ≡ end → ⊥) → ⊥
-        go (bad r i c) m h ih = let z : ◌≡◌ {A = ℕ} 0 1 = cc in omega arith
+        go (bad r i c) m h ih = cc
         go (branch cs) m h ih = child_some cs (outermost way cs) m refl h ih
         go (leaf es) m h ih = leaves q (rw (entry-some q es (outermost way es) refl h) at (met_leaf N view q false es m))

@@ -13,6 +13,7 @@ use Rattle.path.specs.Path.{step, nth, Move, at, refused, lacking, below, met, f
 use Rattle.view.specs.declared.Value.{Value}
 use Rattle.cursor.specs.Working.{followed_of}
 use Rattle.cursor.proofs.OuterLaws.{not_first}
+use Rattle.field.specs.declared.refusal.Refusal.{Refusal}
 
 -- a step more or less on the way does not change whether a path stands
 pub followed_below : (s : Step) (m : Move Value) → followed_of (below s m) ≡ followed_of m
@@ -29,7 +30,7 @@ module _ {P : Type 0} (N : ℕ) (view : ℕ → Bool → View P) (k q : ℕ) (wi
   follow_astray f = rw (left, f)
 
   module _ (same : eqb s.page q ≡ true) where
-    pub follow_bad : (r e c : ℕ) → met N view q (eqb k 0) ≡ bad r e c → follow N view (16 - k) (eqb k 0) q (s ∷ rest) ≡ refused r q e c
+    pub follow_bad : (r : Refusal) (e c : ℕ) → met N view q (eqb k 0) ≡ bad r e c → follow N view (16 - k) (eqb k 0) q (s ∷ rest) ≡ refused r q e c
     unfolding follow
     follow_bad r e c m = rw (left, same, m)
 

@@ -22,29 +22,29 @@ use Rattle.view.specs.declared.Value.{Value}
 use Rattle.view.specs.Geometry.{SoundSizes}
 use Rattle.view.specs.View.{child_item, value_item, view_of}
 use Rattle.view.proofs.ViewLaws.{length_row, view_leaf, checked}
-use Rattle.cursor.specs.declared.follow.Followed.TheVariants.{Stands}
 use Rattle.cursor.specs.Cursor.{path_of}
 use Rattle.cursor.specs.Sight.{SoundPage}
 use Rattle.cursor.specs.Working.{has_beside, beside_of, under, followed_of, page_at, root_of, PathPage, turn_of}
 use Rattle.cursor.proofs.MetLaws.{branch_seen, leaf_seen}
 use Rattle.cursor.proofs.BesideLaws.{Level, last_level, mid_level, level, none_on_leaf, none_on_branch, some_on_leaf, some_on_branch, lifted, outer_some}
 use Rattle.cursor.proofs.StepsLaws.{under_at, under_snoc}
+use Rattle.std.specs.Prelude.{Ok}
 
 -- an element that is there is below the count
 nth_below : {A : Type 0} (xs : List A) (i : ℕ) (x : A) → nth xs i ≡ some x → i < length xs
 unfolding nth
-nth_below [] i x h = absurd (let z : ◌≡◌ {A = ℕ} 0 1 = cc in omega arith)
+nth_below [] i x h = absurd cc
 nth_below (y ∷ xs) zero x h = omega arith
 nth_below (y ∷ xs) (suc i) x h = let l = nth_below xs i x h in omega arith
 
 -- a path of which it was found that it stands leads to an entry
-pub stands_at : (m : Move Value) → (m ≡ end → ⊥) → followed_of m ≡ Stands → (rest : List Step) × (e : Item Value) × (m ≡ at rest e)
+pub stands_at : (m : Move Value) → (m ≡ end → ⊥) → followed_of m ≡ Ok tt → (rest : List Step) × (e : Item Value) × (m ≡ at rest e)
 stands_at (at rest e) f h = (rest, e, refl)
 stands_at end f h = absurd (f refl)
-stands_at (refused r p i c) f h = absurd (let z : ◌≡◌ {A = ℕ} 0 1 = cc in omega arith)
+stands_at (refused r p i c) f h = absurd cc
 
 module _ (image : List ℕ) (P N : ℕ) (sizes : SoundSizes image P N) (c : Cursor) (sixteen : length c.steps ≡ 16) (few : c.length ≤ 16)
-    (stands : followed_of (follow N (view_of image P N) 16 true (root_of c) (path_of c)) ≡ Stands)
+    (stands : followed_of (follow N (view_of image P N) 16 true (root_of c) (path_of c)) ≡ Ok tt)
   where
     abbrev view : ℕ → Bool → View Value
     view = view_of image P N
@@ -107,9 +107,9 @@ module _ (image : List ℕ) (P N : ℕ) (sizes : SoundSizes image P N) (c : Curs
           omega arith
 
       below_some : (s : Step) (m : Move Value) → (m ≡ end → ⊥) → below s m ≡ end → ⊥
-      below_some s (at rest x) g h = let z : ◌≡◌ {A = ℕ} 0 1 = cc in omega arith
+      below_some s (at rest x) g h = cc
       below_some s end g h = g refl
-      below_some s (refused r p j c) g h = let z : ◌≡◌ {A = ℕ} 0 1 = cc in omega arith
+      below_some s (refused r p j c) g h = cc
 
       turn_mid : (k i : ℕ) → k + 1 < c.length
           → turn_of image P N way c k i ≡ under (take k c.steps ++ (step (page_at c k) i ∷ [])) (outer N view way (16 - (k + 1)) false (page_of (block k) i))
@@ -130,7 +130,7 @@ module _ (image : List ℕ) (P N : ℕ) (sizes : SoundSizes image P N) (c : Curs
               let same : s.entries ≡ es = (let p = s.seen in cc) in
               let f = some_on_leaf N view c.steps c.length sixteen few stood.1 (stood.0, stood.2) way k l es (value_item (page_at c k * P) (block k) (beside_of way (index k))) m (rw s.counted h)
               (rw same at (s.entry (beside_of way (index k)) (omega arith))) in
-              lifted N view c.steps c.length sixteen few stood.1 (stood.0, stood.2) way k l (λ g. let q = sym f ∙ g in let z : ◌≡◌ {A = ℕ} 0 1 = cc in omega arith)
+              lifted N view c.steps c.length sixteen few stood.1 (stood.0, stood.2) way k l (λ g. let q = sym f ∙ g in cc)
               ∙ ap (under (take k c.steps)) f
               ∙ under_at (take k c.steps) (step (page_at c k) (beside_of way (index k))) (value_item (page_at c k * P) (block k) (beside_of way (index k)))
               ∙ sym (turn_last k (beside_of way (index k)) x)

@@ -15,6 +15,8 @@ use Rattle.path.specs.declared.Direction.TheVariants.{Onward, Back}
 use Rattle.path.specs.Path.{step, nth, placed, outermost, at, end, refused, below, met, outer}
 use Rattle.cursor.specs.Working.{edge_of}
 use Rattle.cursor.proofs.MetLaws.{nth_none}
+use Rattle.field.specs.declared.refusal.Refusal.TheVariants.{TooDeep}
+use Rattle.field.specs.declared.refusal.Refusal.{Refusal}
 
 -- a level below the root's
 pub not_first : (k : ℕ) → eqb (k + 1) 0 ≡ false
@@ -34,7 +36,7 @@ module _ {P : Type 0} (N : ℕ) (view : ℕ → Bool → View P) (way : Directio
   left : 16 - level ≡ suc (16 - (level + 1))
   left = omega arith
 
-  pub outer_bad : (r e c : ℕ) → met N view q (eqb level 0) ≡ bad r e c → outer N view way (16 - level) (eqb level 0) q ≡ refused r q e c
+  pub outer_bad : (r : Refusal) (e c : ℕ) → met N view q (eqb level 0) ≡ bad r e c → outer N view way (16 - level) (eqb level 0) q ≡ refused r q e c
   unfolding outer
   outer_bad r e c m = rw (left, m)
 
@@ -53,6 +55,6 @@ module _ {P : Type 0} (N : ℕ) (view : ℕ → Bool → View P) (way : Directio
   outer_empty es m z = rw (left, m, outermost_is way es, nth_none es (edge_of way (length es)) (omega arith))
 
 pub outer_deep : {P : Type 0} (N : ℕ) (view : ℕ → Bool → View P) (way : Direction) (level : ℕ) (top : Bool) (q : ℕ) → 16 ≤ level
-    → outer N view way (16 - level) top q ≡ refused 9 q 0 0
+    → outer N view way (16 - level) top q ≡ refused TooDeep q 0 0
 unfolding outer
 outer_deep N view way level top q l = let e : 16 - level ≡ 0 = omega arith in rw e

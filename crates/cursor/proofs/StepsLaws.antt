@@ -6,6 +6,7 @@ use Prim.Native.Nat.{ℕ, suc, ◌+◌, ◌-◌, ◌≤◌, ◌<◌}
 use native.Mathlib.Omega.{arith}
 use lib.ListN.{length, get_or, take, drop, set, drop_of_length-le, replicate, length-append, length-set, length-replicate, take-append-drop}
 use lib.Seq.{length-take-le, take-suc, take-suc-set, drop-set-lt, drop-cons, get_or-take, take_at, drop_at, drop-drop}
+use Rattle.std.proofs.lemmas.List.{drop-replicate}
 use Rattle.walk.specs.Tree.{Item}
 use Rattle.path.specs.declared.Step.{Step}
 use Rattle.path.specs.declared.Cursor.{Cursor}
@@ -13,18 +14,16 @@ use Rattle.path.specs.Path.{step, Move, at, end, refused, below}
 use Rattle.view.specs.declared.Value.{Value}
 use Rattle.cursor.specs.declared.Entry.{Entry}
 use Rattle.cursor.specs.declared.Moved.{Moved}
-use Rattle.cursor.specs.declared.Stand.TheVariants.{At}
 use Rattle.cursor.specs.Cursor.{entry_of, cursor_of, path_of, moved_of}
 use Rattle.cursor.specs.Working.{Clear, under}
+use Rattle.std.specs.Prelude.{Ok, Some}
+use Rattle.field.specs.declared.refusal.Refusal.{Refusal}
 
 -- a step more of those that are taken
 pub take_next : (steps : List Step) (k : ℕ) → k < length steps → take (k + 1) steps ≡ take k steps ++ (get_or steps k (step 0 0) ∷ [])
 take_next steps k l = let e : k + 1 ≡ suc k = omega arith in rw e (take-suc steps k (step 0 0) l)
 
 -- ---- cleared steps
-pub clear_none : Clear (replicate 16 (step 0 0)) 0
-clear_none = record { sixteen = length-replicate 16 (step 0 0); zeros = refl }
-
 tail_zeros : (k : ℕ) → k < 16 → drop 1 (replicate (16 - k) (step 0 0)) ≡ replicate (16 - (k + 1)) (step 0 0)
 tail_zeros k l = let e : 16 - k ≡ suc (16 - (k + 1)) = omega arith in rw e
 
@@ -65,9 +64,19 @@ path_clear path l =
 pub path_back : (path : List Step) → path_of (cursor_of path) ≡ path
 path_back path = take_at path (replicate (16 - length path) (step 0 0)) (length path) refl
 
+-- of the first steps of sixteen, zeros after them, and one step more
+pub turned_cursor : (old front : List Step) (k : ℕ) (s : Step) → length old ≡ 16 → k < 16 → front ≡ take k old
+    → ◌≡◌ {A = Cursor} (record { steps = set (front ++ drop k (replicate 16 (step 0 0))) k s; length = k + 1 }) (cursor_of (take k old ++ (s ∷ [])))
+turned_cursor old front k s sixteen l e =
+    let n : length (take k old) ≡ k = length-take-le k old (omega arith) in
+    let clear : Clear (take k old ++ replicate (16 - k) (step 0 0)) k = rw n at (path_clear (take k old) (omega arith)) in
+    let back : take k (take k old ++ replicate (16 - k) (step 0 0)) ≡ take k old = rw n at (path_back (take k old)) in
+    rw (e, drop-replicate k 16 (step 0 0))
+    (set_cursor (take k old ++ replicate (16 - k) (step 0 0)) k s l clear ∙ ap (λ (path : List Step). cursor_of (path ++ (s ∷ []))) back)
+
 -- an entry at a step more
 pub made_at : (given : Cursor) (steps : List Step) (k : ℕ) (s : Step) (r : Entry) (x : Item Value) → k < 16 → Clear steps k → r ≡ entry_of x
-    → ◌≡◌ {A = Moved} (record { cursor = record { steps = set steps k s; length = k + 1 }; stand = At r }) (moved_of given (at (take k steps ++ (s ∷ [])) x))
+    → ◌≡◌ {A = Moved} (record { cursor = record { steps = set steps k s; length = k + 1 }; stand = Ok (Some r) }) (moved_of given (at (take k steps ++ (s ∷ [])) x))
 made_at given steps k s r x l c e = rw (set_cursor steps k s l c, e)
 
 -- the steps of a path from step k on
@@ -93,7 +102,7 @@ module _ {P : Type 0} where
   under_end [] = refl
   under_end (x ∷ path) = ap (below x) (under_end path)
 
-  pub under_refused : (path : List Step) (r p e c : ℕ) → ◌≡◌ {A = Move P} (under path (refused r p e c)) (refused r p e c)
+  pub under_refused : (path : List Step) (r : Refusal) (p e c : ℕ) → ◌≡◌ {A = Move P} (under path (refused r p e c)) (refused r p e c)
   unfolding under
   under_refused [] r p e c = refl
   under_refused (x ∷ path) r p e c = ap (below x) (under_refused path r p e c)

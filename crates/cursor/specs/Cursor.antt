@@ -1,6 +1,7 @@
 -- 02, order 1: what the cursor's calls answer.
 -- Assumes nothing.
-use Rattle.std.specs.Prelude.{Bool, true, cond, ◌||◌, List, [], ◌++◌, ℕ, ◌+◌, ◌-◌, ltb, eqb, length, take, replicate}
+use Rattle.std.specs.Prelude.{Bool, true, cond, ◌||◌, List, [], ◌++◌, ℕ, ◌+◌, ◌-◌, ltb, eqb, length, take, replicate, Some, None, Ok, Err}
+use Rattle.field.specs.declared.refusal.Refusal.TheVariants.{Geometry}
 use Rattle.walk.specs.Tree.{Key, Item}
 use Rattle.path.specs.declared.Direction.{Direction}
 use Rattle.path.specs.declared.Direction.TheVariants.{Back}
@@ -13,7 +14,6 @@ use Rattle.view.specs.Fault.{fault_at}
 use Rattle.view.specs.Geometry.{geometry_bad}
 use Rattle.view.specs.View.{view_of}
 use Rattle.cursor.specs.declared.Entry.{Entry}
-use Rattle.cursor.specs.declared.Stand.TheVariants.{At, End, Refused}
 use Rattle.cursor.specs.declared.Moved.{Moved}
 
 -- where an entry's key and value lie in the image; the value follows the key
@@ -33,13 +33,13 @@ path_of c = take c.length c.steps
 
 -- ---- what a move answers: at an entry, a cursor there; otherwise the one that was given
 abbrev pub moved_of : Cursor → Move Value → Moved
-moved_of given (at path e) = record { cursor = cursor_of path; stand = At (entry_of e) }
-moved_of given end = record { cursor = given; stand = End }
-moved_of given (refused number page element common) = record { cursor = given; stand = Refused (fault_at number page element common) }
+moved_of given (at path e) = record { cursor = cursor_of path; stand = Ok (Some (entry_of e)) }
+moved_of given end = record { cursor = given; stand = Ok None }
+moved_of given (refused refusal page element common) = record { cursor = given; stand = Err (fault_at refusal page element common) }
 
 -- geometry first
 abbrev pub on_image : List ℕ → ℕ → ℕ → Move Value → Move Value
-on_image image P N m = cond (geometry_bad image P N) (refused 1 0 0 0) m
+on_image image P N m = cond (geometry_bad image P N) (refused Geometry 0 0 0) m
 
 -- a lent cursor of no steps, or of more than there are levels, is 11
 abbrev pub length_bad : Cursor → Bool

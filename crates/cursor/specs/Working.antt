@@ -1,6 +1,7 @@
 -- Working definitions of the code's parts: indices, cleared steps, a move below a path, a path that was followed.
 -- Assumes nothing.
-use Rattle.std.specs.Prelude.{◌≡◌, Bool, true, false, cond, List, [], ◌∷◌, ◌++◌, ℕ, ◌+◌, ◌-◌, ◌*◌, ◌≤◌, ◌<◌, ltb, length, get_or, take, drop, replicate}
+use Rattle.std.specs.Prelude.{◌≡◌, Bool, true, false, cond, List, [], ◌∷◌, ◌++◌, ℕ, ◌+◌, ◌-◌, ◌*◌, ◌≤◌, ◌<◌, ltb, length, get_or, take, drop, replicate, Ok, Err}
+use Rattle.std.specs.declared.result.Result.{Result}
 use Rattle.page.specs.Layout.{count_of, page_of}
 use Rattle.page.specs.PageRules.{SoundBlock, block_of}
 use Rattle.path.specs.declared.Direction.{Direction}
@@ -8,12 +9,11 @@ use Rattle.path.specs.declared.Direction.TheVariants.{Onward, Back}
 use Rattle.path.specs.declared.Step.{Step}
 use Rattle.path.specs.declared.Cursor.{Cursor}
 use Rattle.path.specs.Path.{step, Move, at, end, refused, below, outer}
+use Rattle.view.specs.declared.Fault.{Fault}
 use Rattle.view.specs.declared.Value.{Value}
 use Rattle.view.specs.Fault.{fault_at}
 use Rattle.view.specs.View.{value_item, view_of}
 use Rattle.cursor.specs.Sight.{SoundPage}
-use Rattle.cursor.specs.declared.follow.Followed.{Followed}
-use Rattle.cursor.specs.declared.follow.Followed.TheVariants.{Stands, Refused}
 
 -- the index of the outermost of n elements
 abbrev pub edge_of : Direction → ℕ → ℕ
@@ -39,10 +39,11 @@ unfoldable pub under : {P : Type 0} → List Step → Move P → Move P
 under [] m = m
 under (s ∷ path) m = below s (under path m)
 
-abbrev pub followed_of : Move Value → Followed
-followed_of (at path e) = Stands
-followed_of end = Stands
-followed_of (refused number page element common) = Refused (fault_at number page element common)
+-- whether a path stands in the tree, or the first refusal on the way
+abbrev pub followed_of : Move Value → Result Unit Fault
+followed_of (at path e) = Ok tt
+followed_of end = Ok tt
+followed_of (refused refusal page element common) = Err (fault_at refusal page element common)
 
 -- the page of a cursor's step k; that of the first is the root
 abbrev pub page_at : Cursor → ℕ → ℕ

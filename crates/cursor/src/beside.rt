@@ -1,16 +1,15 @@
 // The entry beside that of a path.
-ghost use Rattle.std.specs.Prelude.{◌≡◌, true, ◌<◌, ◌≤◌};
+ghost use Rattle.std.specs.Prelude.{◌≡◌, true, ◌<◌, ◌≤◌, Ok};
 ghost use Rattle.path.specs.Path.{follow as follow_path, neighbour as neighbour_of};
 ghost use Rattle.view.specs.Geometry.{SoundSizes};
 ghost use Rattle.view.specs.View.{view_of};
-ghost use Rattle.cursor.specs.declared.follow.Followed.TheVariants.{Stands};
 ghost use Rattle.cursor.specs.Cursor.{path_of, moved_of};
 ghost use Rattle.cursor.specs.Working.{has_beside, beside_of, followed_of, root_of, PathPage, turn_of};
 
+use super::Moved;
 use super::outer::outer;
 use super::sight::{child_at, count_at, entry_at};
 use super::steps::turned;
-use super::{Moved, Stand};
 use path::{Cursor, Direction, Step};
 
 // Whether there is an element beside element `i` of `n`.
@@ -59,7 +58,7 @@ fn turn(
     }
     Moved {
         cursor: made,
-        stand: Stand::At(entry_at(image, p, n, q, i)),
+        stand: Ok(Some(entry_at(image, p, n, q, i))),
     }
 }
 
@@ -73,23 +72,20 @@ pub fn neighbour(
     given: Cursor,
 ) -> Moved
     requires { SoundSizes image.now p n × (c.length ≤ 16)
-        × (followed_of (follow_path n (view_of image.now p n) 16 true (root_of c) (path_of c)) ≡ Stands) }
+        × (followed_of (follow_path n (view_of image.now p n) 16 true (root_of c) (path_of c)) ≡ Ok tt) }
     ensures { result ≡ moved_of given (neighbour_of n (view_of image.now p n) way 16 true (root_of c) (path_of c)) }
 {
     let steps = c.steps;
-    let mut level = c.length;
-    while 0 < level {
-        let k = level - 1;
+    for k in (0..c.length).rev() {
         let s = steps[k];
         let count = count_at(image, p, n, s.page);
         if has_beside(way, count, s.index) {
             let i = beside(way, count, s.index);
             return turn(image, p, n, way, c, k, i, given);
         }
-        level = k;
     }
     Moved {
         cursor: given,
-        stand: Stand::End,
+        stand: Ok(None),
     }
 }

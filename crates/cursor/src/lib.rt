@@ -24,32 +24,19 @@ pub struct Entry {
     pub end: usize,
 }
 
-// What a move of a cursor comes to: an entry, no entry, or a refusal.
-#[derive(Clone, Copy)]
-pub enum Stand {
-    At(Entry),
-    End,
-    Refused(Fault),
-}
-
-// What a call answers: what it came to, and the cursor there.
+// What a call answers: the entry that it came to, that there is none, or a refusal; and the cursor there.
 #[derive(Clone, Copy)]
 pub struct Moved {
     pub cursor: Cursor,
-    pub stand: Stand,
+    pub stand: Result<Option<Entry>, Fault>,
 }
 
-// The refusal with this number, page, element and length of a common beginning, and the cursor that was given.
-pub fn refuse(given: Cursor, number: u64, page: usize, element: usize, common: usize) -> Moved
-    ensures { result ≡ moved_of given (refused number page element common) }
+// A refusal, and the cursor that was given.
+pub fn refuse(given: Cursor, fault: Fault) -> Moved
+    ensures { result ≡ moved_of given (refused fault.refusal fault.page fault.element fault.common) }
 {
     Moved {
         cursor: given,
-        stand: Stand::Refused(Fault {
-            number,
-            page,
-            element,
-            common,
-        }),
+        stand: Err(fault),
     }
 }

@@ -7,7 +7,9 @@ ghost use Rattle.cursor.specs.Cursor.{path_of, moved_of};
 ghost use Rattle.cursor.specs.Working.{edge_of, Clear, under};
 
 use super::sight::{Sight, child_at, entry_at, meet};
-use super::{Moved, Stand, refuse};
+use super::{Moved, refuse};
+use field::Refusal;
+use lookup::{fault, on_page};
 use path::{Cursor, Direction, Step};
 use view::LEVELS;
 
@@ -37,24 +39,19 @@ pub fn outer(
         (outer_of n (view_of image.now p n) way (16 - made.length) (eqb made.length 0) page)) }
 {
     let mut steps = made.steps;
-    let mut level = made.length;
     let mut q = page;
-    while level < LEVELS {
+    for level in made.length..LEVELS {
         match meet(image, p, n, q, level == 0) {
-            Sight::Bad(number, i, common) => {
-                return refuse(given, number, q, i, common);
-            }
-            Sight::Branch(count) => {
+            Ok(Sight::Branch(count)) => {
                 let i = edge(way, count);
                 steps[level] = Step { page: q, index: i };
                 q = child_at(image, p, n, q, i);
-                level += 1;
             }
-            Sight::Leaf(count) => {
+            Ok(Sight::Leaf(count)) => {
                 if count == 0 {
                     return Moved {
                         cursor: given,
-                        stand: Stand::End,
+                        stand: Ok(None),
                     };
                 }
                 let i = edge(way, count);
@@ -65,10 +62,11 @@ pub fn outer(
                 };
                 return Moved {
                     cursor,
-                    stand: Stand::At(entry_at(image, p, n, q, i)),
+                    stand: Ok(Some(entry_at(image, p, n, q, i))),
                 };
             }
+            Err(breach) => return refuse(given, on_page(q, breach)),
         }
     }
-    refuse(given, 9, q, 0, 0)
+    refuse(given, fault(Refusal::TooDeep, q))
 }

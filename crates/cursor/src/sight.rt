@@ -9,43 +9,38 @@ ghost use Rattle.cursor.specs.Sight.{sight_of, SoundPage};
 ghost use Rattle.cursor.specs.Cursor.{entry_of};
 
 use super::Entry;
-use page::Verdict;
+use field::Refusal;
+use page::breach::Breach;
 use page::layout::{child, count, is_leaf};
 use page::rules::{check, header_bad};
 use page::search::leaf_at;
 use view::image::{block, from_page, inside};
 
-// A breach with its element and the length of a common beginning, or a branch or a leaf with so many elements.
+// A branch or a leaf with so many elements.
 #[derive(Clone, Copy)]
 pub enum Sight {
-    Bad(u64, usize, usize),
     Branch(usize),
     Leaf(usize),
 }
 
-// Page `q`, as the root or not, after rules 2 and 4 to 7.
-pub fn meet(image: &[u8], p: usize, n: usize, q: usize, top: bool) -> Sight
+// Page `q`, as the root or not, after rules 2 and 4 to 7; or its first breach.
+pub fn meet(image: &[u8], p: usize, n: usize, q: usize, top: bool) -> Result<Sight, Breach>
     requires { SoundSizes image.now p n }
     ensures { result ≡ sight_of (met n (view_of image.now p n) q top) }
 {
     if !inside(n, q) {
-        return Sight::Bad(2, 0, 0);
+        return Err(Breach::from(Refusal::PageNumber));
     }
     if header_bad(from_page(image, p, n, q), n, q) {
-        return Sight::Bad(3, 0, 0);
+        return Err(Breach::from(Refusal::Header));
     }
     let b = block(image, p, n, q);
     if is_leaf(b) {
-        match check(b, true, top) {
-            Verdict::Breach(number, i, common) => Sight::Bad(number, i, common),
-            Verdict::Sound => Sight::Leaf(count(b)),
-        }
-    } else {
-        match check(b, false, false) {
-            Verdict::Breach(number, i, common) => Sight::Bad(number, i, common),
-            Verdict::Sound => Sight::Branch(count(b)),
-        }
+        check(b, true, top)?;
+        return Ok(Sight::Leaf(count(b)));
     }
+    check(b, false, false)?;
+    Ok(Sight::Branch(count(b)))
 }
 
 // How many elements page `q` has.

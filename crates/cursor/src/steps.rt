@@ -19,13 +19,8 @@ pub fn turned(c: Cursor, k: usize, s: Step) -> Cursor
     requires { k < 16 }
     ensures { result ≡ cursor_of (take k c.steps ++ (s ∷ [])) }
 {
-    let old = c.steps;
     let mut steps = [Step { page: 0, index: 0 }; 16];
-    let mut i = 0;
-    while i < k {
-        steps[i] = old[i];
-        i += 1;
-    }
+    steps[..k].copy_from_slice(&c.steps[..k]);
     steps[k] = s;
     Cursor {
         steps,

@@ -1,13 +1,14 @@
 -- Laws of the run: sums past the threshold cut alike, a turn of the run, and from one cut to the next.
 -- Assumes nothing.
-use mathlib.Core.Path.{◌≡◌, refl, sym}
+use mathlib.Core.Path.{◌≡◌, refl, sym, ap, ◌∙◌}
 use mathlib.Core.Bool.{Bool, true, false, cond, ◌||◌}
 use mathlib.Core.List.{List, [], ◌∷◌}
 use Prim.Native.Nat.{ℕ, zero, suc, ◌+◌, ◌-◌, ◌≤◌, ◌<◌, min}
 use native.Mathlib.Numerals.{add-one}
 use native.Mathlib.Omega.{arith}
+use Rattle.std.specs.Prelude.{Some, None}
 use lib.Dec.{leb, ltb}
-use borrow.Author.Tests.{le-leb, lt-leb, lt-ltb, le-ltb}
+use borrow.Author.Tests.{le-leb, lt-leb, lt-ltb, le-ltb, leb-true, leb-false}
 use lib.ListN.{length}
 use Rattle.page.specs.Layout.{Entry, count_of, entry_of, entries_from, entries_of}
 use Rattle.page.proofs.TestLaws.{ltb_same}
@@ -18,10 +19,10 @@ use Rattle.pack.proofs.RangeLaws.{range_next, range_end, range_first}
 use Rattle.cuts.specs.Split.{threshold, unsplit, cut_here, cuts_from, but_two, cuts_of}
 use Rattle.cuts.specs.Run.{restart, cuts_after, first_cut, run_end}
 
--- after a cut the run starts with the entry before it
-pub restart_after : (leaf : Bool) (b : List ℕ) (c : ℕ) → 0 < c → restart leaf b c ≡ 40 + entry_size leaf (entry_of leaf b (c - 1))
-restart_after leaf b zero h = absurd (omega arith)
-restart_after leaf b (suc i) h = let e : suc i - 1 ≡ i = omega arith in rw e
+-- no first cut is no cut
+pub none_first : (cs : List ℕ) → first_cut cs ≡ None → cs ≡ []
+none_first [] h = refl
+none_first (c ∷ cs) h = absurd (let z : ◌≡◌ {A = ℕ} 0 1 = cc in omega arith)
 
 module _ (leaf : Bool) (t : ℕ) where
   -- two sums that are the same up to one past the threshold
@@ -49,7 +50,7 @@ module _ (leaf : Bool) (t : ℕ) where
 
     -- so entry i is the last before a cut, or the run goes on
     pub run_cut : (i end sum count new : ℕ) → i < end → new ≡ min (sum + entry_size leaf (entry_of leaf b i)) (t + 1) → 2 ≤ count + 1 → t < new
-        → first_cut (cuts_from leaf t i sum count (range leaf b i end)) ≡ i + 1
+        → first_cut (cuts_from leaf t i sum count (range leaf b i end)) ≡ Some (i + 1)
     run_cut i end sum count new h e two over =
         rw (run_turn i end sum count new h e, le-leb 2 (count + 1) two, lt-ltb t new over)
 
@@ -66,29 +67,12 @@ module _ (leaf : Bool) (t : ℕ) where
     unfolding cuts_from
     run_done i end sum count h = rw (range_end leaf b i end h)
 
-    -- no first cut is no cut
-    none_from : (i sum count : ℕ) (es : List Entry) → first_cut (cuts_from leaf t i sum count es) ≡ 0 → cuts_from leaf t i sum count es ≡ []
-    unfolding cuts_from
-    none_from i sum count [] h = refl
-    none_from i sum count (e ∷ es) h =
-        go (cut_here t (count + 1) (sum + entry_size leaf e)) h (none_from (i + 1) (sum + entry_size leaf e) (count + 1) es)
-      where
-        go : (q : Bool)
-            → first_cut (cond q ((i + 1) ∷ cuts_from leaf t (i + 1) (40 + entry_size leaf e) 0 es) (cuts_from leaf t (i + 1) (sum + entry_size leaf e) (count + 1) es)) ≡ 0
-            → (first_cut (cuts_from leaf t (i + 1) (sum + entry_size leaf e) (count + 1) es) ≡ 0 → cuts_from leaf t (i + 1) (sum + entry_size leaf e) (count + 1) es ≡ [])
-            → cond q ((i + 1) ∷ cuts_from leaf t (i + 1) (40 + entry_size leaf e) 0 es) (cuts_from leaf t (i + 1) (sum + entry_size leaf e) (count + 1) es) ≡ []
-        go true f rest = absurd (omega arith)
-        go false f rest = rest f
-
-    pub none_after : (end c : ℕ) → first_cut (cuts_after leaf t b end c) ≡ 0 → cuts_after leaf t b end c ≡ []
-    none_after end c h = none_from c (restart leaf b c) 0 (range leaf b c end) h
-
     -- after the first cut come those after it
-    next_from : (k i sum count c : ℕ) → c ≡ first_cut (cuts_from leaf t i sum count (entries_from leaf b k i)) → 0 < c
+    next_from : (k i sum count c : ℕ) → Some c ≡ first_cut (cuts_from leaf t i sum count (entries_from leaf b k i))
         → (cuts_from leaf t i sum count (entries_from leaf b k i) ≡ c ∷ cuts_after leaf t b (i + k) c) × (i < c) × (c ≤ i + k)
     unfolding cuts_from entries_from
-    next_from zero i sum count c h p = absurd (omega arith)
-    next_from (suc k) i sum count c h p =
+    next_from zero i sum count c h = absurd (let z : ◌≡◌ {A = ℕ} 0 1 = cc in omega arith)
+    next_from (suc k) i sum count c h =
         go (cut_here t (count + 1) (sum + s)) h (next_from k (i + 1) (sum + s) (count + 1) c)
       where
         s : ℕ
@@ -97,22 +81,31 @@ module _ (leaf : Bool) (t : ℕ) where
         rest : List ℕ
         rest = cuts_from leaf t (i + 1) (sum + s) (count + 1) (entries_from leaf b k (i + 1))
 
-        go : (q : Bool) → c ≡ first_cut (cond q ((i + 1) ∷ cuts_from leaf t (i + 1) (40 + s) 0 (entries_from leaf b k (i + 1))) rest)
-            → (c ≡ first_cut rest → 0 < c → (rest ≡ c ∷ cuts_after leaf t b (i + 1 + k) c) × (i + 1 < c) × (c ≤ i + 1 + k))
+        go : (q : Bool) → Some c ≡ first_cut (cond q ((i + 1) ∷ cuts_from leaf t (i + 1) (40 + s) 0 (entries_from leaf b k (i + 1))) rest)
+            → (Some c ≡ first_cut rest → (rest ≡ c ∷ cuts_after leaf t b (i + 1 + k) c) × (i + 1 < c) × (c ≤ i + 1 + k))
             → (cond q ((i + 1) ∷ cuts_from leaf t (i + 1) (40 + s) 0 (entries_from leaf b k (i + 1))) rest ≡ c ∷ cuts_after leaf t b (i + suc k) c) × (i < c) × (c ≤ i + suc k)
         go true f ih =
             let e : i + suc k - (i + 1) ≡ k = omega arith in
-            (rw (f, e, add-one), omega arith, omega arith)
+            let first : c ≡ i + 1 = cc in
+            (rw (first, e, add-one), omega arith, omega arith)
         go false f ih =
             let e : i + suc k ≡ i + 1 + k = omega arith in
-            let r = ih f p in
+            let r = ih f in
             (rw e r.0, omega arith, omega arith)
 
-    pub next_after : (end c next : ℕ) → c ≤ end → next ≡ first_cut (cuts_after leaf t b end c) → 0 < next
+    pub next_after : (end c next : ℕ) → Some next ≡ first_cut (cuts_after leaf t b end c)
         → (cuts_after leaf t b end c ≡ next ∷ cuts_after leaf t b end next) × (c < next) × (next ≤ end)
-    next_after end c next l h p =
-        let e : c + (end - c) ≡ end = omega arith in
-        rw e at (next_from (end - c) c (restart leaf b c) 0 next h p)
+    next_after end c next h = go (leb c end) refl
+      where
+        go : (q : Bool) → leb c end ≡ q → (cuts_after leaf t b end c ≡ next ∷ cuts_after leaf t b end next) × (c < next) × (next ≤ end)
+        go true p =
+            let l = leb-true c end p in
+            let e : c + (end - c) ≡ end = omega arith in
+            rw e at (next_from (end - c) c (restart leaf b c) 0 next h)
+        go false p =
+            let l = leb-false c end p in
+            let none = h ∙ ap first_cut (run_done c end (restart leaf b c) 0 (omega arith)) in
+            absurd (let z : ◌≡◌ {A = ℕ} 0 1 = cc in omega arith)
 
 -- ---- where a block's run ends
 module _ (leaf : Bool) (P : ℕ) (b : List ℕ) where

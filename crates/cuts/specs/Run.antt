@@ -1,6 +1,7 @@
 -- The run as the code makes it, from one cut of a block to the next.
 -- Assumes nothing.
-use Rattle.std.specs.Prelude.{Bool, true, cond, List, [], ◌∷◌, ℕ, zero, suc, ◌+◌, ◌-◌, ◌≤◌}
+use Rattle.std.specs.Prelude.{Bool, true, cond, List, [], ◌∷◌, ℕ, zero, suc, ◌+◌, ◌-◌, ◌≤◌, Some, None, unwrap_or}
+use Rattle.std.specs.declared.option.Option.{Option}
 use Rattle.page.specs.Layout.{Entry, count_of, entry_of, entries_of}
 use Rattle.page.specs.PageRules.{SoundBlock}
 use Rattle.pack.specs.Pack.{entry_size}
@@ -16,22 +17,18 @@ restart leaf b (suc i) = 40 + entry_size leaf (entry_of leaf b i)
 abbrev pub cuts_after : Bool → ℕ → List ℕ → ℕ → ℕ → List ℕ
 cuts_after leaf t b end c = cuts_from leaf t c (restart leaf b c) 0 (range leaf b c end)
 
--- the first of the cuts, or 0
-abbrev pub first_cut : List ℕ → ℕ
-first_cut [] = 0
-first_cut (c ∷ cs) = c
+-- the first of the cuts, if there is one
+abbrev pub first_cut : List ℕ → Option ℕ
+first_cut [] = None
+first_cut (c ∷ cs) = Some c
 
 -- where a block's run ends: before its last two entries, or at once
 abbrev pub run_end : Bool → ℕ → List ℕ → ℕ
 run_end leaf P b = cond (unsplit leaf P (entries_of leaf b)) 0 (count_of b - 2)
 
 -- where the piece from entry c on ends: at the next cut, or with the block's entries
-abbrev pub end_or : ℕ → ℕ → ℕ
-end_or n zero = n
-end_or n (suc c) = suc c
-
 abbrev pub piece_end : Bool → ℕ → List ℕ → ℕ → ℕ → ℕ
-piece_end leaf t b end c = end_or (count_of b) (first_cut (cuts_after leaf t b end c))
+piece_end leaf t b end c = unwrap_or (first_cut (cuts_after leaf t b end c)) (count_of b)
 
 -- the k pieces from entry c on
 unfoldable pub pieces_after : Bool → ℕ → List ℕ → ℕ → ℕ → ℕ → List (List Entry)

@@ -13,19 +13,14 @@ ghost use Rattle.cuts.specs.Split.{threshold, cuts_of};
 ghost use Rattle.cuts.specs.Run.{restart, cuts_after, first_cut, run_end};
 ghost use Rattle.cuts.specs.Parted.{parted_if, block_cuts, split_of, list_left};
 
+use field::Refusal;
+use page::Breach;
 use page::layout::{count, is_leaf};
-use page::rules::{Verdict, lent_check};
+use page::rules::lent_check;
 use size::{NODE_HEADER, NODE_LIMIT, entry_size, node_size};
 
 // A cut is made only after so many entries.
 const MIN_KEYS_PER_NODE: usize = 2;
-
-// What `split` answers: how many cuts it wrote, or a refusal with 01's number, the element and the length of a common beginning.
-#[derive(Clone, Copy)]
-pub enum Parted {
-    Cuts(usize),
-    Refused(u64, usize, usize),
-}
 
 // The threshold of a page size: half of it, worked out in f32 as the crate does.
 pub fn half(p: usize) -> u64
@@ -37,13 +32,9 @@ pub fn half(p: usize) -> u64
 
 // The sum of two numbers, counted no further than `cap`.
 pub fn add_capped(a: usize, b: usize, cap: usize) -> usize
-    requires { a ≤ cap }
     ensures { result ≡ min (a + b) cap }
 {
-    if cap - a < b {
-        return cap;
-    }
-    a + b
+    a.saturating_add(b).min(cap)
 }
 
 // The sum that a run starts with after the cut at `c`, or at the start, counted no further than `cap`.
@@ -58,28 +49,22 @@ fn start_sum(b: &[u8], leaf: bool, c: usize, cap: usize) -> usize
     add_capped(NODE_HEADER, entry_size(b, leaf, c - 1), cap)
 }
 
-// The next cut after the one at `c`, or after the start, of a run that ends before entry `end`; 0 if there is none.
-pub fn next_cut(b: &[u8], leaf: bool, t: usize, end: usize, c: usize) -> usize
+// The next cut after the one at `c`, or after the start, of a run that ends before entry `end`.
+pub fn next_cut(b: &[u8], leaf: bool, t: usize, end: usize, c: usize) -> Option<usize>
     requires sound_block { SoundBlock leaf true b.now }
     requires c_bound { (c ≤ count_of b.now) × (end ≤ count_of b.now) × (40 ≤ t) × (t ≤ 65536) }
     ensures { result ≡ first_cut (cuts_after leaf t b.now end c) }
 {
     let past = t + 1;
     let mut sum = start_sum(b, leaf, c, past);
-    let mut since = 0;
-    let mut i = c;
-    while i < end {
-        let size = entry_size(b, leaf, i);
-        sum = add_capped(sum, size, past);
-        since += 1;
-        i += 1;
-        if MIN_KEYS_PER_NODE <= since {
-            if t < sum {
-                return i;
-            }
+    for i in c..end {
+        sum = add_capped(sum, entry_size(b, leaf, i), past);
+        let since = i + 1 - c;
+        if MIN_KEYS_PER_NODE <= since && t < sum {
+            return Some(i + 1);
         }
     }
-    0
+    None
 }
 
 // How many cuts a run makes that ends before entry `end`.
@@ -90,14 +75,11 @@ pub fn count_cuts(b: &[u8], leaf: bool, t: usize, end: usize) -> usize
 {
     let mut made = 0;
     let mut c = 0;
-    loop {
-        let next = next_cut(b, leaf, t, end, c);
-        if next == 0 {
-            return made;
-        }
+    while let Some(next) = next_cut(b, leaf, t, end, c) {
         made += 1;
         c = next;
     }
+    made
 }
 
 // Writes the cuts of a run that ends before entry `end`.
@@ -108,11 +90,7 @@ fn write_cuts(b: &[u8], leaf: bool, t: usize, end: usize, cuts: &mut [u64])
 {
     let mut at = 0;
     let mut from = 0;
-    loop {
-        let cut = next_cut(b, leaf, t, end, from);
-        if cut == 0 {
-            return;
-        }
+    while let Some(cut) = next_cut(b, leaf, t, end, from) {
         cuts[at] = cut as u64;
         at += 1;
         from = cut;
@@ -126,17 +104,14 @@ pub fn run_end(b: &[u8], leaf: bool, p: usize, size: usize) -> usize
     ensures { result ≡ run_end leaf p b.now }
 {
     let n = count(b);
-    if n <= MIN_KEYS_PER_NODE * 2 {
-        return 0;
-    }
-    if size < p {
+    if n <= MIN_KEYS_PER_NODE * 2 || size < p {
         return 0;
     }
     n - MIN_KEYS_PER_NODE
 }
 
 // The cuts of a sound block into the lent list, and how many there are.
-fn split_sound(b: &[u8], leaf: bool, p: usize, cuts: &mut [u64]) -> Parted
+fn split_sound(b: &[u8], leaf: bool, p: usize, cuts: &mut [u64]) -> Result<usize, Breach>
     requires sound_block { SoundBlock leaf true b.now }
     requires p_value { size_allowed p ≡ true }
     ensures { (result ≡ parted_if (node_size leaf (entries_of leaf b.now)) (cuts_of leaf p (entries_of leaf b.now)) (length cuts.old))
@@ -144,25 +119,23 @@ fn split_sound(b: &[u8], leaf: bool, p: usize, cuts: &mut [u64]) -> Parted
 {
     let size = node_size(b, leaf);
     if NODE_LIMIT < size {
-        return Parted::Refused(15, 0, 0);
+        return Err(Breach::from(Refusal::NodeTooLarge));
     }
     let t = half(p) as usize;
     let end = run_end(b, leaf, p, size);
     let made = count_cuts(b, leaf, t, end);
     if cuts.len() < made {
-        return Parted::Refused(10, 0, 0);
+        return Err(Breach::from(Refusal::OutputShort));
     }
     write_cuts(b, leaf, t, end, cuts);
-    Parted::Cuts(made)
+    Ok(made)
 }
 
 // The cuts of a lent block into the lent list, and how many there are.
-pub fn split(b: &[u8], p: usize, cuts: &mut [u64]) -> Parted
+pub fn split(b: &[u8], p: usize, cuts: &mut [u64]) -> Result<usize, Breach>
     ensures { (result ≡ split_of p b.now (length cuts.old))
         × (cuts.new ≡ list_left result (block_cuts p b.now) cuts.old) }
 {
-    match lent_check(b, p) {
-        Verdict::Breach(number, i, common) => Parted::Refused(number, i, common),
-        Verdict::Sound => split_sound(b, is_leaf(b), p, cuts),
-    }
+    lent_check(b, p)?;
+    split_sound(b, is_leaf(b), p, cuts)
 }

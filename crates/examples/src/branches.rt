@@ -8,8 +8,7 @@ fn insert(
     rt: &impl Print,
     b: &[u8],
     p: usize,
-    has: bool,
-    original: &[u8],
+    original: Option<&[u8]>,
     key: &[u8],
     child: u64,
     out: &mut [u8],
@@ -17,7 +16,7 @@ fn insert(
     edited(
         rt,
         "insert_branch",
-        insert_branch(b, p, has, original, key, child, out),
+        insert_branch(b, p, original, key, child, out),
     )?;
     holds(rt, out)
 }
@@ -25,14 +24,14 @@ fn insert(
 // Prints what edits of the branch of m answer: conflicts, a bad child, a replacement, and an output one byte short.
 pub fn branch_edits(rt: &impl Print, b: &[u8], p: usize) -> io::Result<()> {
     let mut out = [165u8; 1024];
-    insert(rt, b, p, false, b"", b"m", 9, &mut out)?;
-    insert(rt, b, p, true, b"k", b"k", 9, &mut out)?;
-    insert(rt, b, p, true, b"m", b"n", 1, &mut out)?;
-    insert(rt, b, p, true, b"m", b"n", 9, &mut out)?;
+    insert(rt, b, p, None, b"m", 9, &mut out)?;
+    insert(rt, b, p, Some(b"k"), b"k", 9, &mut out)?;
+    insert(rt, b, p, Some(b"m"), b"n", 1, &mut out)?;
+    insert(rt, b, p, Some(b"m"), b"n", 9, &mut out)?;
     let mut two = [165u8; 1024];
-    insert(rt, b, p, false, b"", b"q", 9, &mut two)?;
-    insert(rt, &two, p, true, b"q", b"a", 9, &mut out)?;
-    insert(rt, &two, p, true, b"q", b"m", 9, &mut out)?;
+    insert(rt, b, p, None, b"q", 9, &mut two)?;
+    insert(rt, &two, p, Some(b"q"), b"a", 9, &mut out)?;
+    insert(rt, &two, p, Some(b"q"), b"m", 9, &mut out)?;
     let mut short = [165u8; 1023];
-    insert(rt, b, p, false, b"", b"q", 9, &mut short)
+    insert(rt, b, p, None, b"q", 9, &mut short)
 }

@@ -44,7 +44,7 @@ pub fn on_block(rt: &impl Print, b: &[u8], p: usize) -> io::Result<()> {
     edited(
         rt,
         "insert_branch",
-        insert_branch(b, p, false, b"", b"x", 9, &mut out),
+        insert_branch(b, p, None, b"x", 9, &mut out),
     )?;
     holds(rt, &out)?;
     let pages = [8u64; 1];
@@ -77,16 +77,16 @@ pub fn new_nodes(rt: &impl Print, large: &[u8]) -> io::Result<()> {
     edited(rt, "new_branch", new_branch(1024, 6, large, 7, &mut short))?;
     edited(rt, "new_branch", new_branch(1024, 6, b"m", 7, &mut short))?;
     let mut branch = [165u8; 1024];
-    new_branch(1024, 6, b"m", 7, &mut branch);
+    let _ = new_branch(1024, 6, b"m", 7, &mut branch);
     edited(
         rt,
         "insert_branch",
-        insert_branch(&branch, 1024, true, b"m", large, 9, &mut short),
+        insert_branch(&branch, 1024, Some(b"m"), large, 9, &mut short),
     )?;
     edited(
         rt,
         "insert_branch",
-        insert_branch(&branch, 1024, false, b"", large, 9, &mut short),
+        insert_branch(&branch, 1024, None, large, 9, &mut short),
     )?;
     holds(rt, &short)
 }

@@ -1,8 +1,7 @@
 // Prints answers, one to a line.
-use cuts::Parted;
 use meta::fnv::fnv1a;
-use node::{Deleted, Edited, Measure, Merging};
-use page::{Child, Held, Indexed, Leaf};
+use node::{Measure, Removed};
+use page::{Breach, Leaf, Place};
 use split::Written;
 use std::io;
 
@@ -17,8 +16,9 @@ fn pair(rt: &impl Print, name: &str, a: u64, b: u64) -> io::Result<()> {
 }
 
 // Prints a call's name, that it refused, the number, the element and the common beginning.
-fn refused(rt: &impl Print, name: &str, n: u64, element: usize, common: usize) -> io::Result<()> {
-    println!(rt; "{name} refused {n} {element} {common}")
+pub fn refused(rt: &impl Print, name: &str, b: Breach) -> io::Result<()> {
+    let number = u64::from(b.refusal);
+    println!(rt; "{name} refused {number} {} {}", b.element, b.common)
 }
 
 // Prints the kind of a leaf's entry and where its key, its value and their end stand.
@@ -27,93 +27,83 @@ fn leaf(rt: &impl Print, l: Leaf) -> io::Result<()> {
 }
 
 // Prints what `index` answers.
-pub fn indexed(rt: &impl Print, r: Indexed) -> io::Result<()> {
+pub fn indexed(rt: &impl Print, r: Result<Place, Breach>) -> io::Result<()> {
     match r {
-        Indexed::At(place) => {
-            if place.found {
-                pair(rt, "index", place.at as u64, 1)
-            } else {
-                pair(rt, "index", place.at as u64, 0)
-            }
-        }
-        Indexed::Refused(n, i, common) => refused(rt, "index", n, i, common),
+        Ok(place) => pair(rt, "index", place.at as u64, u64::from(place.found)),
+        Err(b) => refused(rt, "index", b),
     }
 }
 
 // Prints what `index_page` answers.
-pub fn child(rt: &impl Print, r: Child) -> io::Result<()> {
+pub fn child(rt: &impl Print, r: Result<usize, Breach>) -> io::Result<()> {
     match r {
-        Child::Page(page) => pair(rt, "index_page", page as u64, 0),
-        Child::Refused(n, i, common) => refused(rt, "index_page", n, i, common),
+        Ok(page) => pair(rt, "index_page", page as u64, 0),
+        Err(b) => refused(rt, "index_page", b),
     }
 }
 
 // Prints what `entry` answers.
-pub fn held(rt: &impl Print, r: Held) -> io::Result<()> {
+pub fn held(rt: &impl Print, r: Result<Option<Leaf>, Breach>) -> io::Result<()> {
     match r {
-        Held::Here(l) => {
+        Ok(Some(l)) => {
             print!(rt; "entry")?;
             leaf(rt, l)
         }
-        Held::Nothing => println!(rt; "entry nothing"),
-        Held::Refused(n, i, common) => refused(rt, "entry", n, i, common),
+        Ok(None) => println!(rt; "entry nothing"),
+        Err(b) => refused(rt, "entry", b),
     }
 }
 
 // Prints what `size` answers.
-pub fn measured(rt: &impl Print, r: Measure) -> io::Result<()> {
+pub fn measured(rt: &impl Print, r: Result<Measure, Breach>) -> io::Result<()> {
     match r {
-        Measure::Bytes(bytes, pages) => pair(rt, "size", bytes as u64, pages as u64),
-        Measure::Refused(n, i, common) => refused(rt, "size", n, i, common),
+        Ok(size) => pair(rt, "size", size.bytes as u64, size.pages as u64),
+        Err(b) => refused(rt, "size", b),
     }
 }
 
 // Prints what `needs_merging` answers.
-pub fn merging(rt: &impl Print, r: Merging) -> io::Result<()> {
+pub fn merging(rt: &impl Print, r: Result<bool, Breach>) -> io::Result<()> {
     match r {
-        Merging::Wanted(wanted) => {
-            if wanted {
-                println!(rt; "needs_merging yes")
-            } else {
-                println!(rt; "needs_merging no")
-            }
-        }
-        Merging::Refused(n, i, common) => refused(rt, "needs_merging", n, i, common),
+        Ok(true) => println!(rt; "needs_merging yes"),
+        Ok(false) => println!(rt; "needs_merging no"),
+        Err(b) => refused(rt, "needs_merging", b),
     }
 }
 
 // Prints what an edit answers.
-pub fn edited(rt: &impl Print, name: &str, r: Edited) -> io::Result<()> {
+pub fn edited(rt: &impl Print, name: &str, r: Result<usize, Breach>) -> io::Result<()> {
     match r {
-        Edited::Written(bytes) => println!(rt; "{name} {bytes}"),
-        Edited::Refused(n, i, common) => refused(rt, name, n, i, common),
+        Ok(bytes) => println!(rt; "{name} {bytes}"),
+        Err(b) => refused(rt, name, b),
     }
 }
 
 // Prints what `delete` answers.
-pub fn deleted(rt: &impl Print, r: Deleted) -> io::Result<()> {
+pub fn deleted(rt: &impl Print, r: Result<Removed, Breach>) -> io::Result<()> {
     match r {
-        Deleted::Removed(bytes, l) => {
+        Ok(removed) => {
+            let bytes = removed.bytes;
             print!(rt; "delete {bytes}")?;
-            leaf(rt, l)
+            leaf(rt, removed.leaf)
         }
-        Deleted::Refused(n, i, common) => refused(rt, "delete", n, i, common),
+        Err(b) => refused(rt, "delete", b),
     }
 }
 
 // Prints what `split` answers.
-pub fn parted(rt: &impl Print, r: Parted) -> io::Result<()> {
+pub fn parted(rt: &impl Print, r: Result<usize, Breach>) -> io::Result<()> {
     match r {
-        Parted::Cuts(cuts) => println!(rt; "split {cuts}"),
-        Parted::Refused(n, i, common) => refused(rt, "split", n, i, common),
+        Ok(cuts) => println!(rt; "split {cuts}"),
+        Err(b) => refused(rt, "split", b),
     }
 }
 
 // Prints what `split_write` answers.
-pub fn written(rt: &impl Print, r: Written) -> io::Result<()> {
+pub fn written(rt: &impl Print, r: Result<Written, Breach>) -> io::Result<()> {
     match r {
-        Written::Pieces(bytes, pieces) => pair(rt, "split_write", bytes as u64, pieces as u64),
-        Written::Refused(n, i, common) => refused(rt, "split_write", n, i, common),
+        Ok(w) => pair(rt, "split_write", w.bytes as u64, w.pieces as u64),
+        Err(b) => refused(rt, "split_write", b),
     }
 }
 

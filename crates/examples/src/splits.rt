@@ -1,26 +1,27 @@
 // Splits of one leaf of five entries, each answer printed, and what the list and the output then hold.
-use super::show::{holds, list, parted, written};
+use super::show::{holds, list, parted, refused, written};
 use cuts::split;
 use node::edit::{insert_data, new_leaf};
+use page::Breach;
 use split::split_write;
 use std::io;
 
 // 01's leaf of 1,024 bytes: five entries with payloads 164, 165, 165, 165, 165.
-fn five() -> [u8; 1024] {
+fn five() -> Result<[u8; 1024], Breach> {
     let value = [55u8; 164];
     let mut none = [0u8; 1024];
-    new_leaf(1024, 5, &mut none);
+    new_leaf(1024, 5, &mut none)?;
     let mut a = [0u8; 1024];
-    insert_data(&none, 1024, b"a", 0, &value[0..163], &mut a);
+    insert_data(&none, 1024, b"a", 0, &value[0..163], &mut a)?;
     let mut b = [0u8; 1024];
-    insert_data(&a, 1024, b"b", 0, &value, &mut b);
+    insert_data(&a, 1024, b"b", 0, &value, &mut b)?;
     let mut c = [0u8; 1024];
-    insert_data(&b, 1024, b"c", 0, &value, &mut c);
+    insert_data(&b, 1024, b"c", 0, &value, &mut c)?;
     let mut d = [0u8; 1024];
-    insert_data(&c, 1024, b"d", 0, &value, &mut d);
+    insert_data(&c, 1024, b"d", 0, &value, &mut d)?;
     let mut e = [0u8; 1024];
-    insert_data(&d, 1024, b"e", 0, &value, &mut e);
-    e
+    insert_data(&d, 1024, b"e", 0, &value, &mut e)?;
+    Ok(e)
 }
 
 // Prints what writing the leaf's pieces to two pages answers.
@@ -58,14 +59,21 @@ fn writes(rt: &impl Print, leaf: &[u8]) -> io::Result<()> {
 }
 
 // Prints what splitting the leaf answers, and what the list then holds.
-pub fn splits(rt: &impl Print) -> io::Result<()> {
-    let leaf = five();
+fn split_leaf(rt: &impl Print, leaf: &[u8]) -> io::Result<()> {
     let mut cuts = [7u64; 2];
-    no_room(rt, &leaf, &mut cuts)?;
+    no_room(rt, leaf, &mut cuts)?;
     list(rt, &cuts)?;
-    parted(rt, split(&leaf, 1024, &mut cuts))?;
+    parted(rt, split(leaf, 1024, &mut cuts))?;
     list(rt, &cuts)?;
-    writes(rt, &leaf)
+    writes(rt, leaf)
+}
+
+// Prints the answers to splits of the leaf of five entries.
+pub fn splits(rt: &impl Print) -> io::Result<()> {
+    match five() {
+        Ok(leaf) => split_leaf(rt, &leaf),
+        Err(b) => refused(rt, "five", b),
+    }
 }
 
 // Prints what writing a block above a node's limit answers, with room for it in the image.

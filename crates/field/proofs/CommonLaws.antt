@@ -1,7 +1,7 @@
 -- The laws of the common beginning of two keys: both begin with it, they begin alike with nothing longer, it is the same either way round, and it is the whole of
 -- both for equal keys alone. Below them, what a loop that compares from the front has to know, and that the byte after the common beginning decides the order.
 -- Assumes nothing.
-use Prim.Native.Nat.{ℕ, zero, suc, ◌+◌, ◌<◌, ◌≤◌}
+use Prim.Native.Nat.{ℕ, zero, suc, ◌+◌, ◌<◌, ◌≤◌, min}
 use native.Mathlib.Nat.{zero-add, eq-or-lt_of_le}
 use native.Mathlib.Numerals.{add-one}
 use native.Mathlib.Omega.{arith}
@@ -13,9 +13,10 @@ use lib.Dec.{ltb, eqb}
 use lib.ListN.{length, get_or, take, drop}
 use lib.Seq.{drop-cons}
 use borrow.Author.Tests.{lt-ltb, le-ltb, eq-eqb, ne_eqb, eqb-true, eqb-false}
-use Rattle.field.specs.declared.order.Order.{Order}
-use Rattle.field.specs.declared.order.Order.TheVariants.{Lower, Equal, Higher}
-use Rattle.field.specs.Order.{order_of, common_of, is_lower}
+use Rattle.std.specs.declared.cmp.Ordering.{Ordering}
+use Rattle.std.specs.declared.cmp.Ordering.TheVariants.{Less, Equal, Greater}
+use Rattle.field.specs.Order.{order_of, common_of}
+use Rattle.std.specs.Ordering.{is_lt}
 use Rattle.field.proofs.OrderLaws.{Ways, less, same, more, ways, head_same, order_equal, from_lower, from_higher, from_longer, from_shorter, from_ended}
 
 -- ---- a first byte that differs ends it
@@ -46,6 +47,12 @@ common_flip (x ∷ xs) (y ∷ ys) = go (common_flip xs ys) (same_or_not x y)
     go : common_of xs ys ≡ common_of ys xs → (x ≡ y) ⊎ (x ≡ y → ⊥) → common_of (x ∷ xs) (y ∷ ys) ≡ common_of (y ∷ ys) (x ∷ xs)
     go ih (inl e) = head_alike x y xs ys e ∙ ap suc ih ∙ sym (head_alike y x ys xs (sym e))
     go ih (inr n) = head_apart x y xs ys n ∙ sym (head_apart y x ys xs (λ e. n (sym e)))
+
+-- the lower of two numbers
+pub least : (n a b : ℕ) → n ≡ min a b → (n ≤ a) × (n ≤ b) × ((n ≡ a) ⊎ (n ≡ b))
+least n a b e =
+    let l : n ≤ a = omega arith in
+    (l, omega arith, ⊎_elim inl (λ m. inr (omega arith)) (eq-or-lt_of_le l))
 
 -- ---- what both begin with
 pub common_within : (a b : List ℕ) → common_of a b ≤ length a
@@ -162,36 +169,36 @@ module _ (a b : List ℕ) (c : ℕ) (e : c ≡ common_of a b) where
   rest : order_of a b ≡ order_of (drop c a) (drop c b)
   rest = (common_skip a b c (omega arith)).0
 
-  pub second_ended : length b ≤ c → is_lower (order_of a b) ≡ false
+  pub second_ended : length b ≤ c → is_lt (order_of a b) ≡ false
   second_ended l = go (eq-or-lt_of_le most)
     where
       most : c ≤ length a
       most = omega (arith, common_within a b)
 
-      go : (c ≡ length a) ⊎ (c < length a) → is_lower (order_of a b) ≡ false
-      go (inl q) = ap is_lower (rest ∙ from_ended a b c (omega arith) l)
-      go (inr q) = ap is_lower (rest ∙ from_longer a b c q l)
+      go : (c ≡ length a) ⊎ (c < length a) → is_lt (order_of a b) ≡ false
+      go (inl q) = ap is_lt (rest ∙ from_ended a b c (omega arith) l)
+      go (inr q) = ap is_lt (rest ∙ from_longer a b c q l)
 
-  pub first_ended : length a ≤ c → c < length b → is_lower (order_of a b) ≡ true
-  first_ended l q = ap is_lower (rest ∙ from_shorter a b c l q)
+  pub first_ended : length a ≤ c → c < length b → is_lt (order_of a b) ≡ true
+  first_ended l q = ap is_lt (rest ∙ from_shorter a b c l q)
 
-  pub by_byte : c < length a → c < length b → is_lower (order_of a b) ≡ ltb (get_or a c 0) (get_or b c 0)
+  pub by_byte : c < length a → c < length b → is_lt (order_of a b) ≡ ltb (get_or a c 0) (get_or b c 0)
   by_byte p q = go (ways (get_or a c 0) (get_or b c 0))
     where
-      go : Ways (get_or a c 0) (get_or b c 0) → is_lower (order_of a b) ≡ ltb (get_or a c 0) (get_or b c 0)
-      go (less h) = ap is_lower (rest ∙ from_lower a b c p q h) ∙ sym (lt-ltb (get_or a c 0) (get_or b c 0) h)
+      go : Ways (get_or a c 0) (get_or b c 0) → is_lt (order_of a b) ≡ ltb (get_or a c 0) (get_or b c 0)
+      go (less h) = ap is_lt (rest ∙ from_lower a b c p q h) ∙ sym (lt-ltb (get_or a c 0) (get_or b c 0) h)
       go (same h) = absurd (omega (arith, common_more a b c (omega arith) p q h))
-      go (more h) = let l : get_or b c 0 ≤ get_or a c 0 = omega arith in ap is_lower (rest ∙ from_higher a b c p q h) ∙ sym (le-ltb (get_or a c 0) (get_or b c 0) l)
+      go (more h) = let l : get_or b c 0 ≤ get_or a c 0 = omega arith in ap is_lt (rest ∙ from_higher a b c p q h) ∙ sym (le-ltb (get_or a c 0) (get_or b c 0) l)
 
-  pub left_over : is_lower (order_of a b) ≡ false → c < length a → order_of a b ≡ Higher
+  pub left_over : is_lt (order_of a b) ≡ false → c < length a → order_of a b ≡ Greater
   left_over n l = go (order_of a b) refl
     where
-      go : (o : Order) → order_of a b ≡ o → order_of a b ≡ Higher
-      go Lower f = absurd (let z : ◌≡◌ {A = ℕ} 0 1 = cc in omega arith)
+      go : (o : Ordering) → order_of a b ≡ o → order_of a b ≡ Greater
+      go Less f = absurd (let z : ◌≡◌ {A = ℕ} 0 1 = cc in omega arith)
       go Equal f = absurd (omega (arith, ((whole_iff a b).1 (order_equal a b f)).0))
-      go Higher f = f
+      go Greater f = f
 
-  pub none_over : is_lower (order_of a b) ≡ false → length a ≤ c → order_of a b ≡ Equal
+  pub none_over : is_lt (order_of a b) ≡ false → length a ≤ c → order_of a b ≡ Equal
   none_over n l = go (eq-or-lt_of_le most)
     where
       most : length a ≤ length b
@@ -209,15 +216,15 @@ module _ (a b : List ℕ) (n : ℕ) (alike : n ≤ common_of a b) (whole : (n �
   shorter : (n ≤ length a) × (n ≤ length b)
   shorter = (omega (arith, common_within a b), omega (arith, common_within b a, common_flip a b))
 
-  pub by_length : is_lower (order_of a b) ≡ ltb (length a) (length b)
+  pub by_length : is_lt (order_of a b) ≡ ltb (length a) (length b)
   by_length = go (ways (length a) (length b))
     where
-      none : length b ≤ length a → is_lower (order_of a b) ≡ ltb (length a) (length b)
+      none : length b ≤ length a → is_lt (order_of a b) ≡ ltb (length a) (length b)
       none l =
           let all : length b ≤ n = ⊎_elim (λ e. omega arith) (λ e. omega arith) whole in
           second_ended a b n ended all ∙ sym (le-ltb _ _ l)
 
-      go : Ways (length a) (length b) → is_lower (order_of a b) ≡ ltb (length a) (length b)
+      go : Ways (length a) (length b) → is_lt (order_of a b) ≡ ltb (length a) (length b)
       go (less l) =
           let all : n ≡ length a = ⊎_elim (λ e. e) (λ e. omega (arith, shorter.0)) whole in
           first_ended a b n ended (omega arith) (omega arith) ∙ sym (lt-ltb _ _ l)

@@ -1,17 +1,19 @@
 -- Laws of numbers in bytes, over the width: how long they are, that they fit, that what was put is read back, what a row of stores leaves,
 -- and where they stand in a part.
 -- Assumes nothing.
-use mathlib.Core.Path.{◌≡◌, refl, sym, ap, ◌∙◌, subst}
+use mathlib.Core.Path.{◌≡◌, refl, sym, ap, ap₂, ◌∙◌, subst}
 use mathlib.Core.List.{List, [], ◌∷◌, ◌++◌, append_assoc}
 use Prim.Native.Nat.{ℕ, zero, suc, ◌+◌, ◌*◌, ◌/◌, ◌%◌, ◌^◌, ◌≤◌, ◌<◌}
-use native.Mathlib.Nat.{add_assoc, add-zero, pow-suc, div-lt_iff_lt-mul, mul-suc, mul-le-mul_left}
+use native.Mathlib.Nat.{add_assoc, add-zero, div-one, div-div-eq-div-mul, pow-suc, div-lt_iff_lt-mul, mul-suc, mul-le-mul_left}
 use native.Mathlib.Omega.{arith}
 use lib.Dec.{lit<}
-use lib.ListN.{length, get_or, set, take, drop, length-append, length-set}
+use Rattle.std.specs.Int.{bytes_low_first, byte_at}
+use lib.Pow.{pow-add}
+use lib.ListN.{set, length-set, length, get_or, take, drop, length-append}
 use lib.Seq.{length-take-le, get_or-append_seam, get_or-take, get_or-drop}
 use Rattle.field.specs.Field.{field, bytes_of, big_field}
-use Rattle.field.specs.Run.{put_at}
 use Rattle.field.proofs.RunLaws.{put_nil, put_cons}
+use Rattle.field.specs.Run.{put_at}
 
 -- each element is a byte
 abbrev pub Bytes : List ℕ → Type 0
@@ -43,6 +45,24 @@ pub length_bytes : (w v : ℕ) → length (bytes_of w v) ≡ w
 unfolding bytes_of
 length_bytes zero v = refl
 length_bytes (suc w) v = ap suc (length_bytes w (v / 256))
+
+-- the bytes as std has them, from byte i of a number on
+low_bytes : (i w v : ℕ) → bytes_low_first i w v ≡ bytes_of w (v / 256 ^ i)
+unfolding bytes_of
+low_bytes i zero v = refl
+low_bytes i (suc w) v = ap₂ ◌∷◌ (here i) (low_bytes (suc i) w v ∙ ap (bytes_of w) rest)
+  where
+    here : (k : ℕ) → byte_at k v ≡ v / 256 ^ k % 256
+    here zero = ap (λ (n : ℕ). n % 256) (sym (div-one v))
+    here (suc k) = refl
+
+    rest : v / 256 ^ suc i ≡ v / 256 ^ i / 256
+    rest =
+        let e : suc i ≡ i + 1 = omega arith in
+        ap (λ (n : ℕ). v / 256 ^ n) e ∙ ap (λ (n : ℕ). v / n) (pow-add 256 i 1) ∙ sym (div-div-eq-div-mul v (256 ^ i) 256)
+
+pub le_bytes : (w v : ℕ) → bytes_low_first 0 w v ≡ bytes_of w v
+le_bytes w v = low_bytes 0 w v ∙ ap (bytes_of w) (div-one v)
 
 pub read_at : (w v : ℕ) (p q : List ℕ) → v < 256 ^ w → field w (p ++ bytes_of w v ++ q) (length p) ≡ v
 unfolding field bytes_of
@@ -90,6 +110,21 @@ field_drop (suc w) s k at = rw (get_or-drop k s at 0, field_drop w s k (at + 1),
 
 pub field_part : (w : ℕ) (s : List ℕ) (at n : ℕ) → w ≤ n → field w (take n (drop at s)) 0 ≡ field w s at
 field_part w s at n h = field_take w (drop at s) 0 n (omega arith) ∙ field_drop w s at 0 ∙ ap (field w s) (add-zero at)
+
+big_take : (w : ℕ) (s : List ℕ) (at n : ℕ) → at + w ≤ n → big_field w (take n s) at ≡ big_field w s at
+unfolding big_field
+big_take zero s at n h = refl
+big_take (suc w) s at n h =
+    let first : get_or (take n s) at 0 ≡ get_or s at 0 = get_or-take n s at 0 (omega arith) in
+    rw (first, big_take w s (at + 1) n (omega arith))
+
+big_drop : (w : ℕ) (s : List ℕ) (k at : ℕ) → big_field w (drop k s) at ≡ big_field w s (k + at)
+unfolding big_field
+big_drop zero s k at = refl
+big_drop (suc w) s k at = rw (get_or-drop k s at 0, big_drop w s k (at + 1), add_assoc k at 1)
+
+pub big_part : (w : ℕ) (s : List ℕ) (at n : ℕ) → w ≤ n → big_field w (take n (drop at s)) 0 ≡ big_field w s at
+big_part w s at n h = big_take w (drop at s) 0 n (omega arith) ∙ big_drop w s at 0 ∙ ap (big_field w s) (add-zero at)
 
 -- ---- the bytes of a number that was read, the other way round
 big_tail : (w x : ℕ) (xs : List ℕ) (k : ℕ) → big_field w (x ∷ xs) (suc k) ≡ big_field w xs k

@@ -1,4 +1,4 @@
--- The laws of the keys' order: Equal is equality, Lower is transitive and not reflexive, and Lower one way is Higher the other.
+-- The laws of the keys' order: Equal is equality, Less is transitive and not reflexive, and Less one way is Greater the other.
 -- Below them, what a loop that compares from the front has to know of two lists from index i on.
 -- Assumes nothing.
 use Prim.Native.Nat.{ℕ, ◌+◌, ◌<◌, ◌≤◌}
@@ -12,27 +12,28 @@ use lib.Dec.{ltb}
 use lib.ListN.{length, get_or, drop, drop_of_length-le}
 use lib.Seq.{drop-cons}
 use borrow.Author.Tests.{lt-ltb, le-ltb, ltb-true, ltb-false}
-use Rattle.field.specs.declared.order.Order.{Order}
-use Rattle.field.specs.declared.order.Order.TheVariants.{Lower, Equal, Higher}
-use Rattle.field.specs.Order.{order_of, is_lower, is_equal}
+use Rattle.std.specs.declared.cmp.Ordering.{Ordering}
+use Rattle.std.specs.declared.cmp.Ordering.TheVariants.{Less, Equal, Greater}
+use Rattle.field.specs.Order.{order_of}
+use Rattle.std.specs.Ordering.{is_lt, is_eq}
 
 -- ---- what the tests of an order tell
-pub is_lower_lem : (o : Order) → is_lower o ≡ true → o ≡ Lower
-is_lower_lem Lower e = refl
-is_lower_lem Equal e = cc
-is_lower_lem Higher e = cc
+pub is_lt_lem : (o : Ordering) → is_lt o ≡ true → o ≡ Less
+is_lt_lem Less e = refl
+is_lt_lem Equal e = cc
+is_lt_lem Greater e = cc
 
-pub is_equal_lem : (o : Order) → is_equal o ≡ true → o ≡ Equal
-is_equal_lem Lower e = cc
-is_equal_lem Equal e = refl
-is_equal_lem Higher e = cc
+pub is_eq_lem : (o : Ordering) → is_eq o ≡ true → o ≡ Equal
+is_eq_lem Less e = cc
+is_eq_lem Equal e = refl
+is_eq_lem Greater e = cc
 
 -- ---- a first byte decides, or the rest does
-pub head_lower : (x y : ℕ) (xs ys : List ℕ) → x < y → order_of (x ∷ xs) (y ∷ ys) ≡ Lower
+pub head_lower : (x y : ℕ) (xs ys : List ℕ) → x < y → order_of (x ∷ xs) (y ∷ ys) ≡ Less
 unfolding order_of
 head_lower x y xs ys h = simp (lt-ltb x y h)
 
-pub head_higher : (x y : ℕ) (xs ys : List ℕ) → y < x → order_of (x ∷ xs) (y ∷ ys) ≡ Higher
+pub head_higher : (x y : ℕ) (xs ys : List ℕ) → y < x → order_of (x ∷ xs) (y ∷ ys) ≡ Greater
 unfolding order_of
 head_higher x y xs ys h =
     let l : y ≤ x = omega arith in
@@ -84,10 +85,10 @@ pub equal_iff : (a b : List ℕ) → (order_of a b ≡ Equal) ↔ (a ≡ b)
 equal_iff a b = (order_equal a b, λ e. ap (order_of a) (sym e) ∙ order_refl a)
 
 -- ---- the other way round
-abbrev pub flip : Order → Order
-flip Lower = Higher
+abbrev pub flip : Ordering → Ordering
+flip Less = Greater
 flip Equal = Equal
-flip Higher = Lower
+flip Greater = Less
 
 pub order_flip : (a b : List ℕ) → order_of b a ≡ flip (order_of a b)
 unfolding order_of
@@ -101,19 +102,19 @@ order_flip (x ∷ xs) (y ∷ ys) = go (order_flip xs ys) (ways x y)
     go ih (same h) = head_same y x ys xs (sym h) ∙ ih ∙ sym (ap flip (head_same x y xs ys h))
     go ih (more h) = head_lower y x ys xs h ∙ sym (ap flip (head_higher x y xs ys h))
 
-pub lower_iff : (a b : List ℕ) → (order_of a b ≡ Lower) ↔ (order_of b a ≡ Higher)
+pub lower_iff : (a b : List ℕ) → (order_of a b ≡ Less) ↔ (order_of b a ≡ Greater)
 lower_iff a b = (λ e. order_flip a b ∙ ap flip e, λ e. order_flip b a ∙ ap flip e)
 
--- ---- Lower is transitive
-lower_split : (x y : ℕ) (xs ys : List ℕ) → order_of (x ∷ xs) (y ∷ ys) ≡ Lower → (x < y) ⊎ ((x ≡ y) × (order_of xs ys ≡ Lower))
+-- ---- Less is transitive
+lower_split : (x y : ℕ) (xs ys : List ℕ) → order_of (x ∷ xs) (y ∷ ys) ≡ Less → (x < y) ⊎ ((x ≡ y) × (order_of xs ys ≡ Less))
 lower_split x y xs ys e = go (ways x y)
   where
-    go : Ways x y → (x < y) ⊎ ((x ≡ y) × (order_of xs ys ≡ Lower))
+    go : Ways x y → (x < y) ⊎ ((x ≡ y) × (order_of xs ys ≡ Less))
     go (less h) = inl h
     go (same h) = inr (h, sym (head_same x y xs ys h) ∙ e)
     go (more h) = absurd (let f = head_higher x y xs ys h in let z : ◌≡◌ {A = ℕ} 0 1 = cc in omega arith)
 
-pub lower_trans : (a b c : List ℕ) → order_of a b ≡ Lower → order_of b c ≡ Lower → order_of a c ≡ Lower
+pub lower_trans : (a b c : List ℕ) → order_of a b ≡ Less → order_of b c ≡ Less → order_of a c ≡ Less
 unfolding order_of
 lower_trans [] [] c p q = absurd (let z : ◌≡◌ {A = ℕ} 0 1 = cc in omega arith)
 lower_trans [] (y ∷ ys) [] p q = absurd (let z : ◌≡◌ {A = ℕ} 0 1 = cc in omega arith)
@@ -132,20 +133,20 @@ lower_trans (x ∷ xs) (y ∷ ys) (z ∷ zs) p q =
 
 -- ---- two lists from index i on
 module _ (a b : List ℕ) (i : ℕ) where
-  pub from_lower : i < length a → i < length b → get_or a i 0 < get_or b i 0 → order_of (drop i a) (drop i b) ≡ Lower
+  pub from_lower : i < length a → i < length b → get_or a i 0 < get_or b i 0 → order_of (drop i a) (drop i b) ≡ Less
   from_lower p q h = rw (drop-cons a i 0, drop-cons b i 0) (head_lower _ _ _ _ h)
 
-  pub from_higher : i < length a → i < length b → get_or b i 0 < get_or a i 0 → order_of (drop i a) (drop i b) ≡ Higher
+  pub from_higher : i < length a → i < length b → get_or b i 0 < get_or a i 0 → order_of (drop i a) (drop i b) ≡ Greater
   from_higher p q h = rw (drop-cons a i 0, drop-cons b i 0) (head_higher _ _ _ _ h)
 
   pub from_same : i < length a → i < length b → get_or a i 0 ≡ get_or b i 0 → order_of (drop i a) (drop i b) ≡ order_of (drop (i + 1) a) (drop (i + 1) b)
   from_same p q h = rw (drop-cons a i 0 p, drop-cons b i 0 q, add-one) (head_same _ _ _ _ h)
 
-  pub from_longer : i < length a → length b ≤ i → order_of (drop i a) (drop i b) ≡ Higher
+  pub from_longer : i < length a → length b ≤ i → order_of (drop i a) (drop i b) ≡ Greater
   unfolding order_of
   from_longer p q = rw (drop-cons a i 0, drop_of_length-le b q)
 
-  pub from_shorter : length a ≤ i → i < length b → order_of (drop i a) (drop i b) ≡ Lower
+  pub from_shorter : length a ≤ i → i < length b → order_of (drop i a) (drop i b) ≡ Less
   unfolding order_of
   from_shorter p q = rw (drop_of_length-le a p, drop-cons b i 0)
 

@@ -7,6 +7,7 @@ use native.Mathlib.Nat.{add-zero, add_assoc, zero-add}
 use native.Mathlib.Numerals.{add-one}
 use native.Mathlib.Omega.{arith}
 use lib.ListN.{length, get_or, set, take, drop, length-append, length-drop, take-append-drop, drop_of_length-le, replicate}
+use borrow.Rule.Slice.PartMut.{put_mid}
 use lib.Seq.{length-take-le, set_split, append_snoc, take_at, drop_at, drop-append-add, drop-drop, drop-cons}
 use Rattle.field.specs.Run.{put_at}
 
@@ -14,6 +15,13 @@ use Rattle.field.specs.Run.{put_at}
 pub put_nil : (o : List ℕ) (at : ℕ) → put_at o at [] ≡ o
 unfolding put_at
 put_nil o at = rw (add-zero, append-nil) (take-append-drop at o)
+
+-- a part that is overwritten is a run put where the part starts
+pub mid_put : (o run : List ℕ) (at k : ℕ) → k ≡ length run → put_mid at k o run ≡ put_at o at run
+unfolding put_at
+mid_put o run at k e =
+    ap (λ (r : List ℕ). take at o ++ (run ++ r)) (drop-drop k at o ∙ ap (λ (n : ℕ). drop (at + n) o) e)
+    ∙ sym (append_assoc (take at o) run (drop (at + length run) o))
 
 pub length-put : (o : List ℕ) (at : ℕ) (run : List ℕ) → at + length run ≤ length o → length (put_at o at run) ≡ length o
 unfolding put_at

@@ -10,9 +10,10 @@ use native.Mathlib.Omega.{arith}
 use lib.Dec.{ltb, eqb}
 use lib.ListN.{length, get_or, drop}
 use borrow.Author.Tests.{lt-ltb, le-ltb, eqb-true, eqb-false}
-use Rattle.field.specs.declared.order.Order.TheVariants.{Lower, Higher}
+use Rattle.std.specs.declared.cmp.Ordering.TheVariants.{Less, Greater}
 use Rattle.field.specs.Field.{big_field}
-use Rattle.field.specs.Order.{order_of, common_of, is_lower}
+use Rattle.field.specs.Order.{order_of, common_of}
+use Rattle.std.specs.Ordering.{is_lt}
 use Rattle.field.proofs.FieldLaws.{Bytes, big_fits, times_below}
 use Rattle.field.proofs.CommonLaws.{common_skip, from_alike}
 use Rattle.field.proofs.OrderLaws.{Ways, less, same, more, ways, from_lower, from_same, order_flip, flip}
@@ -35,7 +36,7 @@ first-same k x y p q hp hq h = go (ways x y)
     go (more m) = absurd (omega (arith, times_below k y x m))
 
 module _ (a b : List ℕ) (ha : Bytes a) (hb : Bytes b) where
-  pub word_lower : (w i : ℕ) → i + w ≤ length a → i + w ≤ length b → big_field w a i < big_field w b i → order_of (drop i a) (drop i b) ≡ Lower
+  pub word_lower : (w i : ℕ) → i + w ≤ length a → i + w ≤ length b → big_field w a i < big_field w b i → order_of (drop i a) (drop i b) ≡ Less
   unfolding big_field
   word_lower zero i la lb h = absurd (omega arith)
   word_lower (suc w) i la lb h =
@@ -46,7 +47,7 @@ module _ (a b : List ℕ) (ha : Bytes a) (hb : Bytes b) where
 
 -- the other way round
 pub word_higher : (a b : List ℕ) → Bytes a → Bytes b → (w i : ℕ) → i + w ≤ length a → i + w ≤ length b → big_field w b i < big_field w a i
-    → order_of (drop i a) (drop i b) ≡ Higher
+    → order_of (drop i a) (drop i b) ≡ Greater
 word_higher a b ha hb w i la lb h = order_flip (drop i b) (drop i a) ∙ ap flip (word_lower b a hb ha w i lb la h)
 
 module _ (a b : List ℕ) (ha : Bytes a) (hb : Bytes b) where
@@ -64,20 +65,20 @@ module _ (a b : List ℕ) (ha : Bytes a) (hb : Bytes b) where
 
 -- ---- two keys that are alike before byte i, by the words there
 module _ (a b : List ℕ) (ha : Bytes a) (hb : Bytes b) (i : ℕ) (alike : i ≤ common_of a b) (la : i + 8 ≤ length a) (lb : i + 8 ≤ length b) where
-  pub lower_here : big_field 8 a i < big_field 8 b i → order_of a b ≡ Lower
+  pub lower_here : big_field 8 a i < big_field 8 b i → order_of a b ≡ Less
   lower_here h = (common_skip a b i alike).0 ∙ word_lower a b ha hb 8 i la lb h
 
-  pub higher_here : big_field 8 b i < big_field 8 a i → order_of a b ≡ Higher
+  pub higher_here : big_field 8 b i < big_field 8 a i → order_of a b ≡ Greater
   higher_here h = (common_skip a b i alike).0 ∙ word_higher a b ha hb 8 i la lb h
 
   -- of two words that differ
-  pub parts_here : (big_field 8 a i ≡ big_field 8 b i → ⊥) → is_lower (order_of a b) ≡ ltb (big_field 8 a i) (big_field 8 b i)
+  pub parts_here : (big_field 8 a i ≡ big_field 8 b i → ⊥) → is_lt (order_of a b) ≡ ltb (big_field 8 a i) (big_field 8 b i)
   parts_here h = go (ways (big_field 8 a i) (big_field 8 b i))
     where
-      go : Ways (big_field 8 a i) (big_field 8 b i) → is_lower (order_of a b) ≡ ltb (big_field 8 a i) (big_field 8 b i)
-      go (less l) = ap is_lower (lower_here l) ∙ sym (lt-ltb _ _ l)
+      go : Ways (big_field 8 a i) (big_field 8 b i) → is_lt (order_of a b) ≡ ltb (big_field 8 a i) (big_field 8 b i)
+      go (less l) = ap is_lt (lower_here l) ∙ sym (lt-ltb _ _ l)
       go (same e) = absurd (h e)
-      go (more m) = let l : big_field 8 b i ≤ big_field 8 a i = omega arith in ap is_lower (higher_here m) ∙ sym (le-ltb _ _ l)
+      go (more m) = let l : big_field 8 b i ≤ big_field 8 a i = omega arith in ap is_lt (higher_here m) ∙ sym (le-ltb _ _ l)
 
   pub goes_on : big_field 8 a i ≡ big_field 8 b i → i + 8 ≤ common_of a b
   goes_on h = omega (arith, (common_skip a b i alike).1, word_alike a b ha hb 8 i la lb h)
@@ -89,10 +90,10 @@ module _ (a b : List ℕ) (ha : Bytes a) (hb : Bytes b) (n k : ℕ) (most : n �
     (e3 : x3 ≡ big_field 8 a (n - 8)) (f3 : y3 ≡ big_field 8 b (n - 8)) where
   -- what the two words that are picked tell
   abbrev Tells : ℕ → ℕ → Type 0
-  Tells x y = ((x ≡ y → ⊥) → ltb x y ≡ is_lower (order_of a b)) × (x ≡ y → n ≤ common_of a b)
+  Tells x y = ((x ≡ y → ⊥) → ltb x y ≡ is_lt (order_of a b)) × (x ≡ y → n ≤ common_of a b)
 
   -- those at byte i, up to which the keys are alike
-  at_word : (i x y : ℕ) → i ≤ common_of a b → i + 8 ≤ n → x ≡ big_field 8 a i → y ≡ big_field 8 b i → (x ≡ y → ⊥) → ltb x y ≡ is_lower (order_of a b)
+  at_word : (i x y : ℕ) → i ≤ common_of a b → i + 8 ≤ n → x ≡ big_field 8 a i → y ≡ big_field 8 b i → (x ≡ y → ⊥) → ltb x y ≡ is_lt (order_of a b)
   at_word i x y l r e f ne =
       ap₂ ltb e f ∙ sym (parts_here a b ha hb i l (omega arith) (omega arith) (λ z. ne (e ∙ z ∙ sym f)))
 

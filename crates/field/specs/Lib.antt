@@ -4,3 +4,4 @@ pub mod Run
 pub mod Order
 pub mod Marks
 pub mod Sizes
+pub mod Refusal

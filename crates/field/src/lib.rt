@@ -5,7 +5,9 @@
 pub mod marks;
 pub mod number;
 pub mod order;
+pub mod refusal;
 pub mod run;
 pub mod sizes;
 
-pub use order::{Order, Parting};
+pub use order::Parting;
+pub use refusal::Refusal;

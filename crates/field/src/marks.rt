@@ -43,26 +43,25 @@ fn with_marks_in(word: u64, page: u64, k: u64) -> u64
 }
 
 // The lowest marked page from `from` up to `to`, looked for one by one; `to` where none is.
-fn lowest_from(marks: &[u64], from: usize, to: usize) -> usize
-    requires { (length marks.now ≡ 512) × (from ≤ to) × (to ≤ 32768) }
+fn lowest_from(marks: &[u64; 512], from: usize, to: usize) -> usize
+    requires { (from ≤ to) × (to ≤ 32768) }
     ensures { result ≡ lowest_marked marks.now from (to - from) }
 {
-    let mut at = from;
-    while at < to {
+    for at in from..to {
         if is_marked(marks[at / 64], at as u64) {
             return at;
         }
-        at += 1;
     }
     to
 }
 
 // The lowest marked page from `from` up to `to`, looked for by words; `to` where none is.
-pub fn lowest_marked(marks: &[u64], from: usize, to: usize) -> usize
-    requires { (length marks.now ≡ 512) × (from ≤ to) × (to ≤ 32768) }
+pub fn lowest_marked(marks: &[u64; 512], from: usize, to: usize) -> usize
+    requires { (from ≤ to) × (to ≤ 32768) }
     ensures { result ≡ lowest_marked marks.now from (to - from) }
 {
     let mut at = from;
+    // No count: each turn goes on where a word ends.
     while at < to {
         let end = word_end(at, to);
         if !clear_in(marks[at / 64], at as u64, (end - at) as u64) {
@@ -74,11 +73,12 @@ pub fn lowest_marked(marks: &[u64], from: usize, to: usize) -> usize
 }
 
 // Marks the pages from `from` up to `to`, by words.
-pub fn mark_pages(marks: &mut [u64], from: usize, to: usize)
-    requires { (length marks.old ≡ 512) × (from ≤ to) × (to ≤ 32768) }
+pub fn mark_pages(marks: &mut [u64; 512], from: usize, to: usize)
+    requires { (from ≤ to) × (to ≤ 32768) }
     ensures { marks.new ≡ with_marks marks.old from (to - from) }
 {
     let mut at = from;
+    // No count: each turn goes on where a word ends.
     while at < to {
         let end = word_end(at, to);
         let word = marks[at / 64];
@@ -91,11 +91,9 @@ pub fn mark_pages(marks: &mut [u64], from: usize, to: usize)
 pub fn count_marks(marks: [u64; 512]) -> u64
     ensures { result ≡ count marks }
 {
-    let mut n: u64 = 0;
-    let mut i: usize = 0;
-    while i < 512 {
-        n += u64::count_ones(marks[i]) as u64;
-        i += 1;
+    let mut n = 0;
+    for word in marks {
+        n += u64::from(word.count_ones());
     }
     n
 }

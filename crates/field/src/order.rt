@@ -1,63 +1,35 @@
 // The byte order of keys, in which a prefix is lower, and where two keys part.
 ghost use Rattle.std.specs.Prelude.{◌≡◌, cond, ◌⊎◌, ◌≤◌, length};
-ghost use Rattle.field.specs.Order.{order_of, common_of, parting_of, is_lower};
+ghost use Rattle.field.specs.Order.{order_of, common_of, parting_of};
+ghost use Rattle.std.specs.Ordering.{is_lt};
 
 use super::number::big_u64_at;
-
-#[derive(Clone, Copy)]
-pub enum Order {
-    Lower,
-    Equal,
-    Higher,
-}
+use std::cmp::Ordering;
 
 // How two keys stand to each other: their order, and the length of their common beginning.
 #[derive(Clone, Copy)]
 pub struct Parting {
-    pub order: Order,
+    pub order: Ordering,
     pub common: usize,
-}
-
-// Whether the first of two keys is lower.
-pub fn is_lower(order: Order) -> bool
-    ensures { result ≡ is_lower order }
-{
-    match order {
-        Order::Lower => true,
-        Order::Equal => false,
-        Order::Higher => false,
-    }
-}
-
-// The lower of two numbers.
-fn least(a: usize, b: usize) -> usize
-    ensures { (result ≤ a) × (result ≤ b) × ((result ≡ a) ⊎ (result ≡ b)) }
-{
-    if a < b {
-        return a;
-    }
-    b
 }
 
 // The length of the common beginning of two keys, byte by byte.
 fn common_of(a: &[u8], b: &[u8]) -> usize
     ensures { result ≡ common_of a.now b.now }
 {
-    let n = least(a.len(), b.len());
-    let mut i = 0;
-    while i < n {
+    let n = a.len().min(b.len());
+    for i in 0..n {
         if a[i] != b[i] {
             return i;
         }
-        i += 1;
     }
-    i
+    n
 }
 
 // Whether the first of two keys is lower, by the byte after their common beginning.
 fn lower_at(a: &[u8], b: &[u8], at: usize) -> bool
     requires { at ≡ common_of a.now b.now }
-    ensures { result ≡ is_lower (order_of a.now b.now) }
+    ensures { result ≡ is_lt (order_of a.now b.now) }
 {
     if b.len() <= at {
         return false;
@@ -69,17 +41,17 @@ fn lower_at(a: &[u8], b: &[u8], at: usize) -> bool
 }
 
 // The order of two keys, by the byte after their common beginning.
-fn order_at(a: &[u8], b: &[u8], at: usize) -> Order
+fn order_at(a: &[u8], b: &[u8], at: usize) -> Ordering
     requires { at ≡ common_of a.now b.now }
     ensures { result ≡ order_of a.now b.now }
 {
     if lower_at(a, b, at) {
-        return Order::Lower;
+        return Ordering::Less;
     }
     if at < a.len() {
-        return Order::Higher;
+        return Ordering::Greater;
     }
-    Order::Equal
+    Ordering::Equal
 }
 
 // How two keys stand to each other, in one pass: where they part, the byte there decides.
@@ -91,54 +63,51 @@ pub fn compare(a: &[u8], b: &[u8]) -> Parting
     Parting { order, common }
 }
 
+// Kept: std's `cmp` of slices takes 1.1 to 1.5 of the time, and login's lookup has none to spare (docs/SPEED.md).
 // The order of two keys, by words: after the last whole word of the shorter, one more word that ends with it, of which the first bytes are alike.
-pub fn order_of(a: &[u8], b: &[u8]) -> Order
+pub fn order_of(a: &[u8], b: &[u8]) -> Ordering
     ensures { result ≡ order_of a.now b.now }
 {
-    let n = least(a.len(), b.len());
+    let n = a.len().min(b.len());
     if n < 8 {
         return order_at(a, b, common_of(a, b));
     }
     let tail = n - 8;
-    let mut i = 0;
-    while i < tail {
+    for i in (0..tail).step_by(8) {
         let x = big_u64_at(a, i);
         let y = big_u64_at(b, i);
         if x != y {
             if x < y {
-                return Order::Lower;
+                return Ordering::Less;
             }
-            return Order::Higher;
+            return Ordering::Greater;
         }
-        i += 8;
     }
     let x = big_u64_at(a, tail);
     let y = big_u64_at(b, tail);
     if x != y {
         if x < y {
-            return Order::Lower;
+            return Ordering::Less;
         }
-        return Order::Higher;
+        return Ordering::Greater;
     }
     order_at(a, b, n)
 }
 
 // Whether the first of two keys is lower, by words as `order_of`.
 pub fn is_below(a: &[u8], b: &[u8]) -> bool
-    ensures { result ≡ is_lower (order_of a.now b.now) }
+    ensures { result ≡ is_lt (order_of a.now b.now) }
 {
-    let n = least(a.len(), b.len());
+    let n = a.len().min(b.len());
     if n < 8 {
         return lower_at(a, b, common_of(a, b));
     }
-    let mut i = 0;
-    while 8 <= n - i {
+    for i in (0..n - 7).step_by(8) {
         let x = big_u64_at(a, i);
         let y = big_u64_at(b, i);
         if x != y {
             return x < y;
         }
-        i += 8;
     }
     let last = n - 8;
     let x = big_u64_at(a, last);
@@ -159,7 +128,7 @@ fn pick(test: bool, x: u64, y: u64) -> u64
 // Whether the first of two keys is lower, the shorter of `n` bytes, 16 to 32: by the first words, or else by three more with no branch among them.
 fn is_below_by_four(a: &[u8], b: &[u8], n: usize) -> bool
     requires { (16 ≤ n) × (n ≤ 32) × (n ≤ length a.now) × (n ≤ length b.now) × ((n ≡ length a.now) ⊎ (n ≡ length b.now)) }
-    ensures { result ≡ is_lower (order_of a.now b.now) }
+    ensures { result ≡ is_lt (order_of a.now b.now) }
 {
     let x0 = big_u64_at(a, 0);
     let y0 = big_u64_at(b, 0);
@@ -167,7 +136,7 @@ fn is_below_by_four(a: &[u8], b: &[u8], n: usize) -> bool
         return x0 < y0;
     }
     let fourth = n - 8;
-    let third = least(fourth, 16);
+    let third = fourth.min(16);
     let x1 = big_u64_at(a, 8);
     let y1 = big_u64_at(b, 8);
     let x2 = big_u64_at(a, third);
@@ -184,9 +153,9 @@ fn is_below_by_four(a: &[u8], b: &[u8], n: usize) -> bool
 
 // Whether the first of two keys is lower, for keys of which it cannot be foreseen in which word they part, as neighbours in a leaf.
 pub fn is_below_at_once(a: &[u8], b: &[u8]) -> bool
-    ensures { result ≡ is_lower (order_of a.now b.now) }
+    ensures { result ≡ is_lt (order_of a.now b.now) }
 {
-    let n = least(a.len(), b.len());
+    let n = a.len().min(b.len());
     if 16 <= n {
         if n <= 32 {
             return is_below_by_four(a, b, n);

@@ -7,11 +7,7 @@ pub fn copy(out: &mut [u8], at: usize, src: &[u8])
     requires { at + length src.now ≤ length out.old }
     ensures { out.new ≡ put_at out.old at src.now }
 {
-    let mut j = 0;
-    while j < src.len() {
-        out[at + j] = src[j];
-        j += 1;
-    }
+    out[at..at + src.len()].copy_from_slice(src);
 }
 
 // Puts zeros from `at` up to `end`.
@@ -19,9 +15,5 @@ pub fn clear(out: &mut [u8], at: usize, end: usize)
     requires { (at ≤ end) × (end ≤ length out.old) }
     ensures { out.new ≡ put_at out.old at (replicate (end - at) 0) }
 {
-    let mut i = at;
-    while i < end {
-        out[i] = 0;
-        i += 1;
-    }
+    out[at..end].fill(0);
 }

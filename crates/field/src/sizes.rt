@@ -6,21 +6,12 @@ ghost use Rattle.field.specs.Sizes.{size_allowed, count_allowed};
 pub fn size_allowed(p: usize) -> bool
     ensures { result ≡ size_allowed p }
 {
-    if p < 1024 {
-        return false;
-    }
-    if 65536 < p {
-        return false;
-    }
-    p % 8 == 0
+    1024 <= p && p <= 65536 && p % 8 == 0
 }
 
 // Whether a page count is allowed: 2 to 32,768.
 pub fn count_allowed(n: usize) -> bool
     ensures { result ≡ count_allowed n }
 {
-    if n < 2 {
-        return false;
-    }
-    n <= 32768
+    2 <= n && n <= 32768
 }

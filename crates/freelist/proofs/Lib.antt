@@ -1,4 +1,4 @@
--- The laws of the definitions: of the table's bits and a page's state, of pages in a list, and of the numbers that the calls answer.
+-- The laws of the definitions: of the table's bits and a page's state, of pages in a list, and of what the calls refuse.
 pub mod TableBits
 pub mod States
 pub mod PageLaws
@@ -8,7 +8,6 @@ pub mod AnswerLaws
 pub mod FaultLaws
 pub mod NumberLaws
 pub mod RunLaws
-pub mod AllocateLaws
 pub mod ListLaws
 -- The theorems: when a call is done, what it does to every page, what is handed out, and what is listed.
 pub mod Conditions

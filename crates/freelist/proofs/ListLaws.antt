@@ -6,8 +6,7 @@ use mathlib.Core.Bool.{Bool, true, false, ◌&&◌, and-false}
 use Prim.Native.Nat.{ℕ, suc, ◌+◌, ◌-◌, ◌≤◌, ◌<◌}
 use native.Mathlib.Numerals.{add-one}
 use native.Mathlib.Omega.{arith}
-use borrow.Author.Tests.{le-leb, lt-leb, lt-ltb, le-ltb}
-use lib.Dec.{ltb}
+use lib.Dec.{leb, ltb}
 use lib.ListN.{length, get_or, set, drop, drop_of_length-le}
 use lib.Seq.{drop-cons}
 use Rattle.field.specs.Run.{put_at}
@@ -15,7 +14,7 @@ use Rattle.field.proofs.RunLaws.{put_cons, put_nil}
 use Rattle.freelist.specs.declared.table.State.TheVariants.{Free}
 use Rattle.freelist.specs.Table.{state_of, is_in_use, is_listed, put}
 use Rattle.freelist.specs.Pages.{pages_from, all, keep, rising, each}
-use Rattle.freelist.specs.Freelist.{initial, listing}
+use Rattle.freelist.specs.Freelist.{listing}
 use Rattle.freelist.proofs.PageLaws.{keep_next, keep_skip, keep_none, length_keep, length_row}
 
 -- from element i on
@@ -23,6 +22,13 @@ from_next : (ids : List ℕ) (i : ℕ) → i < length ids → drop i ids ≡ get
 from_next ids i l = rw (add-one, drop-cons ids i 0)
 
 -- ---- the initial list
+
+-- two tests of an id and two of the ids after it
+and_sides : (a b r s : Bool) → ((a && r) && (b && s)) ≡ ((a && b) && (r && s))
+and_sides true true r s = refl
+and_sides true false r s = and-false r
+and_sides false b r s = refl
+
 module _ (t : List ℕ) (n : ℕ) where
   -- what is asked of one id, and of all from element i on, which are to be above `low`
   abbrev asked : ℕ → Bool
@@ -31,30 +37,14 @@ module _ (t : List ℕ) (n : ℕ) where
   abbrev pub initial_from : List ℕ → ℕ → ℕ → Bool
   initial_from ids low i = rising low (drop i ids) && all asked (drop i ids)
 
-  pub initial_start : (ids : List ℕ) → initial t n ids ≡ initial_from ids 2 0
-  unfolding initial
-  initial_start ids = refl
+  pub initial_turn : (ids : List ℕ) (low i : ℕ) → i < length ids
+      → initial_from ids low i ≡ ((leb low (get_or ids i 0) && asked (get_or ids i 0)) && initial_from ids (get_or ids i 0 + 1) (i + 1))
+  unfolding rising all
+  initial_turn ids low i l = rw (from_next ids i l) (and_sides (leb low (get_or ids i 0)) _ _ _)
 
   pub initial_end : (ids : List ℕ) (low i : ℕ) → length ids ≤ i → initial_from ids low i ≡ true
   unfolding rising all
   initial_end ids low i l = rw (drop_of_length-le ids l)
-
-  module _ (ids : List ℕ) (low i : ℕ) (l : i < length ids) where
-    pub initial_next : low ≤ get_or ids i 0 → get_or ids i 0 < n → is_in_use (state_of t (get_or ids i 0)) ≡ true → initial_from ids low i ≡ initial_from ids (get_or ids i 0 + 1) (i + 1)
-    unfolding rising all
-    initial_next a b e = rw (from_next ids i l, le-leb low (get_or ids i 0) a, lt-ltb (get_or ids i 0) n b, e)
-
-    pub initial_low : get_or ids i 0 < low → initial_from ids low i ≡ false
-    unfolding rising all
-    initial_low a = rw (from_next ids i l, lt-leb low (get_or ids i 0) a)
-
-    pub initial_high : n ≤ get_or ids i 0 → initial_from ids low i ≡ false
-    unfolding rising all
-    initial_high b = rw (from_next ids i l, le-ltb (get_or ids i 0) n b) (and-false (rising low (get_or ids i 0 ∷ drop (i + 1) ids)))
-
-    pub initial_taken : get_or ids i 0 < n → is_in_use (state_of t (get_or ids i 0)) ≡ false → initial_from ids low i ≡ false
-    unfolding rising all
-    initial_taken b e = rw (from_next ids i l, lt-ltb (get_or ids i 0) n b, e) (and-false (rising low (get_or ids i 0 ∷ drop (i + 1) ids)))
 
 -- each id from element i on becomes free
 pub free_next : (ids t : List ℕ) (i : ℕ) → i < length ids → each (λ s. Free) (drop i ids) t ≡ each (λ s. Free) (drop (i + 1) ids) (put t (get_or ids i 0) Free)

@@ -1,20 +1,20 @@
 -- The listing is exactly the free and pending pages from 2 to n - 1, rising and so without repeats, and its length fits the size rule.
 -- Assumes nothing.
-use mathlib.Core.Path.{◌≡◌, refl, ap, ◌∙◌}
+use mathlib.Core.Path.{◌≡◌, refl}
 use mathlib.Core.Logic.{◌↔◌}
 use mathlib.Core.List.{List}
 use mathlib.Core.Bool.{true}
-use Prim.Native.Nat.{ℕ, zero, suc, ◌+◌, ◌-◌, ◌*◌, ◌≤◌, ◌<◌}
+use Prim.Native.Nat.{ℕ, ◌+◌, ◌-◌, ◌*◌, ◌≤◌, ◌<◌}
 use native.Mathlib.Omega.{arith}
 use lib.ListN.{length, get_or}
-use Rattle.freelist.specs.declared.Listed.TheVariants as listed
-use Rattle.freelist.specs.declared.Measured.TheVariants.{Bytes}
+use Rattle.std.specs.Prelude.{Ok, Err}
+use Rattle.std.specs.declared.result.Result.{Result}
+use Rattle.field.specs.declared.refusal.Refusal.{Refusal}
 use Rattle.freelist.specs.Table.{state_of, is_listed}
 use Rattle.freelist.specs.Pages.{◌∈◌, pages_of}
-use Rattle.freelist.specs.Answers.{listed_of, measured_of}
-use Rattle.freelist.specs.Freelist.{fault_of, listing, pages_number, listing_size}
+use Rattle.freelist.specs.Freelist.{fault_of, listing, pages_check, pages_answer, listing_size, size_answer}
 use Rattle.freelist.proofs.PageLaws.{in_row, row_in, rising_row, rising_at, rising_keep, keep_iff}
-use Rattle.freelist.proofs.AnswerLaws.{both_zero}
+use Rattle.freelist.proofs.AnswerLaws.{both_pass}
 use Rattle.freelist.proofs.ListLaws.{listing_few}
 
 module _ (t : List ℕ) (n : ℕ) where
@@ -44,15 +44,13 @@ module _ (t : List ℕ) (n : ℕ) where
   size_most = omega (arith, listing_few t n)
 
   -- where `pages` writes k ids, `size` answers 40 plus 8 for each
-  pub size_of_listing : (ids : List ℕ) (k : ℕ) → listed_of (pages_number t n ids) (length (listing t n)) ≡ listed.Count k
-      → measured_of (fault_of t n) (listing_size t n) ≡ Bytes (40 + 8 * k)
-  unfolding pages_number listing_size
-  size_of_listing ids k e = go (pages_number t n ids) refl
+  pub size_of_listing : (ids : List ℕ) (k : ℕ) → pages_answer t n ids ≡ Ok k → size_answer t n ≡ Ok (40 + 8 * k)
+  unfolding pages_check listing_size
+  size_of_listing ids k e = go (pages_check t n ids) refl
     where
-      go : (c : ℕ) → pages_number t n ids ≡ c → measured_of (fault_of t n) (listing_size t n) ≡ Bytes (40 + 8 * k)
-      go (suc c) f = absurd (let h : listed.Refused (suc c) ≡ listed.Count k = rw f at e in let o : ◌≡◌ {A = ℕ} 0 1 = cc in omega arith)
-      go zero f =
-          let h : listed.Count (length (listing t n)) ≡ listed.Count k = rw f at e in
+      go : (c : Result Unit Refusal) → pages_check t n ids ≡ c → size_answer t n ≡ Ok (40 + 8 * k)
+      go (Err r) f = absurd (let h : ◌≡◌ {A = Result ℕ Refusal} (Err r) (Ok k) = rw f at e in cc)
+      go (Ok u) f =
+          let h : ◌≡◌ {A = Result ℕ Refusal} (Ok (length (listing t n))) (Ok k) = rw f at e in
           let l : length (listing t n) ≡ k = cc in
-          let z = (both_zero (fault_of t n) _ f).0 in
-          ap (λ (b : ℕ). measured_of b (40 + 8 * length (listing t n))) z ∙ ap (λ (x : ℕ). Bytes (40 + 8 * x)) l
+          rw ((both_pass (fault_of t n) _ f).0, l)

@@ -80,21 +80,12 @@ unfolding all
 all_append ok [] qs = refl
 all_append ok (p ∷ ps) qs = ap (λ (b : Bool). ok p && b) (all_append ok ps qs) ∙ sym (and_assoc (ok p) (all ok ps) (all ok qs))
 
--- the pages from p on and below n: a turn, a turn that stops, and the end
-module _ (ok : ℕ → Bool) (p n : ℕ) where
-  pub all_next : p < n → ok p ≡ true → all ok (pages_from p (n - p)) ≡ all ok (pages_from (p + 1) (n - (p + 1)))
-  unfolding all
-  all_next l h = rw (row_next p n l, h)
+-- no page from p on is below n
+pub all_none : (ok : ℕ → Bool) (p n : ℕ) → n ≤ p → all ok (pages_from p (n - p)) ≡ true
+unfolding all
+all_none ok p n l = rw (row-none p n l)
 
-  pub all-stop : p < n → ok p ≡ false → all ok (pages_from p (n - p)) ≡ false
-  unfolding all
-  all-stop l h = rw (row_next p n l, h)
-
-  pub all_none : n ≤ p → all ok (pages_from p (n - p)) ≡ true
-  unfolding all
-  all_none l = rw (row-none p n l)
-
--- the same, of which the first k are asked at once
+-- the pages from p on and below n, of which the first k are asked at once
 pub all_part : (ok : ℕ → Bool) (p k n : ℕ) → p + k ≤ n → all ok (pages_from p (n - p)) ≡ (all ok (pages_from p k) && all ok (pages_from (p + k) (n - (p + k))))
 all_part ok p k n l =
     let e : n - p ≡ k + (n - (p + k)) = omega arith in

@@ -1,18 +1,17 @@
--- The lowest run of free pages: what `first` means, and what the scan knows at page i, after `len` free pages that end there.
+-- The lowest run of free pages: what `first` means, and what the scan knows at page i, before which the pages from `start` on are free.
 -- Assumes nothing.
 use mathlib.Core.Path.{◌≡◌, refl, sym, ap, ◌∙◌}
 use mathlib.Core.Logic.{◌⊎◌, inl, inr, ⊎_elim}
 use mathlib.Core.List.{List}
 use mathlib.Core.Bool.{Bool, true, false, cond, ◌&&◌, and-false}
-use Prim.Native.Nat.{ℕ, zero, suc, ◌+◌, ◌-◌, ◌*◌, ◌/◌, ◌%◌, ◌≤◌, ◌<◌}
-use native.Mathlib.Nat.{eq-or-lt_of_le, add-mul, mod-lt, div-add-mod', div-lt_self, le-div_iff_mul-le}
+use Prim.Native.Nat.{ℕ, zero, suc, ◌+◌, ◌-◌, ◌≤◌, ◌<◌}
+use native.Mathlib.Nat.{eq-or-lt_of_le, le-div_iff_mul-le}
 use native.Mathlib.Omega.{arith}
 use borrow.Author.Tests.{le-leb, lt-leb, leb-true}
-use lib.Arith.{digits_div, lt_of_le-ne}
+use lib.Arith.{lt_of_le-ne}
 use lib.Dec.{leb}
 use lib.ListN.{get_or}
 use Rattle.field.specs.Sizes.{pages_needed}
-use Rattle.field.proofs.BitLaws.{lt_or_le}
 use Rattle.freelist.specs.declared.table.State.{State}
 use Rattle.freelist.specs.declared.table.State.TheVariants.{InUse, Free, Pending, Broken}
 use Rattle.freelist.specs.Table.{bit, state_from, state_of, is_state, is_free}
@@ -112,60 +111,57 @@ module _ (t : List ℕ) (n pages : ℕ) where
   unfolding run
   run_off s i a b h = ap (λ (x : Bool). leb (s + pages) n && x) (all_not (free t) (pages_from s pages) i (in_row s pages i a b) h) ∙ and-false (leb (s + pages) n)
 
-  -- the scan stands at page i: the last len pages are free, fewer than are sought, and no run starts below them
-  pub record Scan (i len : ℕ) : Type 0 where
-    pub from : len + 2 ≤ i
-    pub to : i ≤ n
-    pub less : len < pages
-    pub free : (j : ℕ) → i ≤ j + len → j < i → is_free (state_of t j) ≡ true
-    pub left : lowest t n pages ≡ first (run t n pages) n (pages_from (i - len) (n - (i - len)))
+  -- the scan stands at page i: the pages from start to i - 1 are free, fewer than are sought, and no run starts below them
+  pub record Scan (i start : ℕ) : Type 0 where
+    pub from : 2 ≤ start
+    pub to : start ≤ i
+    pub less : i < start + pages
+    pub free : (j : ℕ) → start ≤ j → j < i → is_free (state_of t j) ≡ true
+    pub left : lowest t n pages ≡ first (run t n pages) n (pages_from start (n - start))
 
-  pub scan_start : 2 ≤ n → 1 ≤ pages → Scan 2 0
+  pub scan_start : 1 ≤ pages → Scan 2 2
   unfolding lowest
-  scan_start l m = record { from = omega arith; to = l; less = m; free = λ j a b. absurd (omega arith); left = refl }
+  scan_start m = record { from = omega arith; to = omega arith; less = omega arith; free = λ j a b. absurd (omega arith); left = refl }
 
-  -- a turn, after which r free pages end with page i: they are as many as are sought, or the scan goes on
-  pub scan_found : (i len r : ℕ) (b : Bool) → Scan i len → i < n → free t i ≡ b → r ≡ cond b (len + 1) 0 → r ≡ pages → i + 1 - r ≡ lowest t n pages
-  scan_found i len r true s l h e m =
-      let f = s.from in
-      let d : i - len ≡ i + 1 - r = omega arith in
-      let on = run_on (i - len) (omega arith) (λ j a b. ⊎_elim (λ q. ap (free t) q ∙ h) (λ q. s.free j (omega arith) q) (eq-or-lt_of_le (omega arith))) in
-      sym (s.left ∙ first_here (run t n pages) n n (i - len) (omega arith) on ∙ d)
-  scan_found i len r false s l h e m = absurd (omega (arith, s.less))
+  -- a turn, after which the pages from r to i are free: they are as many as are sought, or the scan goes on
+  pub scan_found : (i start r : ℕ) (b : Bool) → Scan i start → i < n → free t i ≡ b → r ≡ cond b start (i + 1) → i + 1 - r ≡ pages → (r ≡ lowest t n pages) × (r < n)
+  scan_found i start r true s l h e m =
+      let f = s.to in
+      let on = run_on start (omega arith) (λ j a b. ⊎_elim (λ q. ap (free t) q ∙ h) (λ q. s.free j a q) (eq-or-lt_of_le (omega arith))) in
+      (e ∙ sym (s.left ∙ first_here (run t n pages) n n start (omega arith) on), omega arith)
+  scan_found i start r false s l h e m = let f = s.to in absurd (omega (arith, s.less))
 
-  pub scan_next : (i len r : ℕ) (b : Bool) → Scan i len → i < n → free t i ≡ b → r ≡ cond b (len + 1) 0 → (r ≡ pages → ⊥) → Scan (i + 1) r
-  scan_next i len r true s l h e m =
-      let f = s.from in
+  pub scan_next : (i start r : ℕ) (b : Bool) → Scan i start → i < n → free t i ≡ b → r ≡ cond b start (i + 1) → (i + 1 - r ≡ pages → ⊥) → Scan (i + 1) r
+  scan_next i start r true s l h e m =
+      let f = s.to in
       let o = s.less in
-      let d : i - len ≡ i + 1 - r = omega arith in
-      record {
-        from = omega arith;
+      rw e (record {
+        from = s.from;
         to = omega arith;
-        less = lt_of_le-ne (omega arith) m;
-        free = λ j a b. ⊎_elim (λ q. ap (free t) q ∙ h) (λ q. s.free j (omega arith) q) (eq-or-lt_of_le (omega arith));
-        left = s.left ∙ ap (λ (x : ℕ). first (run t n pages) n (pages_from x (n - x))) d;
-      }
-  scan_next i len r false s l h e m =
-      let f = s.from in
+        less = lt_of_le-ne (omega arith) (λ q. m (omega arith));
+        free = λ j a b. ⊎_elim (λ q. ap (free t) q ∙ h) (λ q. s.free j a q) (eq-or-lt_of_le (omega arith));
+        left = s.left;
+      })
+  scan_next i start r false s l h e m =
+      let f = s.to in
       let o = s.less in
-      let d : i - len + (len + 1) ≡ i + 1 - r = omega arith in
-      record {
-        from = omega arith;
+      let d : start + (i + 1 - start) ≡ i + 1 = omega arith in
+      rw e (record {
+        from = omega (arith, s.from);
         to = omega arith;
         less = omega arith;
         free = λ j a b. absurd (omega arith);
         left =
-            s.left ∙ first_skip (run t n pages) n n (len + 1) (i - len) (omega arith) (λ j a b. run_off j i (omega arith) (omega arith) h)
+            s.left ∙ first_skip (run t n pages) n n (i + 1 - start) start (omega arith) (λ j a b. run_off j i (omega arith) (omega arith) h)
             ∙ ap (λ (x : ℕ). first (run t n pages) n (pages_from x (n - x))) d;
-      }
+      })
 
-  pub scan-end : (i len : ℕ) → Scan i len → n ≤ i → n ≡ lowest t n pages
-  scan-end i len s l =
-      let f = s.from in
-      let m = s.less in
-      let o = s.to in
-      sym (s.left ∙ first_skip (run t n pages) n n len (i - len) (omega arith) (λ j a b. run_past j (omega arith))
-      ∙ first-none (run t n pages) n n (i - len + len) (omega arith))
+  pub scan-end : (i start : ℕ) → Scan i start → n ≤ i → i ≤ n → lowest t n pages ≡ n
+  scan-end i start s l m =
+      let f = s.to in
+      let o = s.less in
+      s.left ∙ first_skip (run t n pages) n n (n - start) start (omega arith) (λ j a b. run_past j (omega arith))
+      ∙ first-none (run t n pages) n n (start + (n - start)) (omega arith)
 
   -- what the lowest run is
   pub lowest_law : 2 ≤ n → First (run t n pages) (n - 2) 2 (lowest t n pages)
@@ -194,31 +190,6 @@ module _ (t : List ℕ) (n pages : ℕ) where
   lowest_least l j h f =
       clash (free_run j f) (⊎_elim (λ g. g.none j f.0 h) (λ g. g.1 j f.0 (omega (arith, g.0))) (lowest_law l))
 
--- ---- pages needed: the bytes over the page size, rounded up
-module _ (bytes size : ℕ) (wide : 2 ≤ size) where
-  pub needed_exact : bytes % size ≡ 0 → bytes / size ≡ pages_needed bytes size
-  needed_exact e =
-      let s = div-add-mod' bytes size in
-      let f : bytes + (size - 1) ≡ bytes / size * size + (size - 1) = omega arith in
-      rw f (sym (digits_div (bytes / size) (omega arith)))
-
-  some_left : (bytes % size ≡ 0 → ⊥) → 1 ≤ bytes % size
-  some_left n = ⊎_elim (λ l. absurd (n (omega arith))) (λ l. l) (lt_or_le (bytes % size) 1)
-
-  pub needed_more : (bytes % size ≡ 0 → ⊥) → bytes / size + 1 ≡ pages_needed bytes size
-  needed_more n =
-      let s = div-add-mod' bytes size in
-      let l = some_left n in
-      let m : bytes % size < size = mod-lt bytes (omega arith) in
-      let f : bytes + (size - 1) ≡ (bytes / size + 1) * size + (bytes % size - 1) = omega (arith, add-mul (bytes / size) 1 size) in
-      rw f (sym (digits_div (bytes / size + 1) (omega arith)))
-
-  pub needed_fits : (bytes % size ≡ 0 → ⊥) → bytes / size + 1 ≤ bytes
-  needed_fits n =
-      let s = div-add-mod' bytes size in
-      let l = some_left n in
-      let d : bytes / size < bytes = div-lt_self (omega arith) (omega arith) in
-      omega arith
-
-  pub needed_some : 1 ≤ bytes → 1 ≤ pages_needed bytes size
-  needed_some h = (le-div_iff_mul-le {k = size} {x = 1} {y = bytes + (size - 1)} (omega arith)).1 (omega arith)
+-- ---- pages needed: at least one for a byte
+pub needed_some : (bytes size : ℕ) → 2 ≤ size → 1 ≤ bytes → 1 ≤ pages_needed bytes size
+needed_some bytes size wide h = (le-div_iff_mul-le {k = size} {x = 1} {y = bytes + (size - 1)} (omega arith)).1 (omega arith)

@@ -15,11 +15,12 @@ use lib.ListN.{length, get_or, replicate, drop, length-replicate, get_or-replica
 use lib.Seq.{get_or-append-add, get_or-drop}
 use Rattle.field.proofs.BitLaws.{same_or}
 use Rattle.field.proofs.RunLaws.{put_start, length-put}
+use Rattle.std.specs.Prelude.{Ok}
 use Rattle.freelist.specs.declared.table.State.{State}
 use Rattle.freelist.specs.declared.table.State.TheVariants.{InUse, Free, Pending, Broken}
 use Rattle.freelist.specs.Table.{bit, state_of, is_state}
 use Rattle.freelist.specs.Pages.{◌∈◌, pages_from, pages_of, rising, each}
-use Rattle.freelist.specs.Freelist.{has_room, fault_of, new_number, new_table, init_number, init_table, free_number, free_table, ripe, release_table}
+use Rattle.freelist.specs.Freelist.{has_room, fault_of, new_check, new_table, init_check, init_table, free_check, free_table, ripe, release_table}
 use Rattle.freelist.proofs.PageLaws.{and_parts, in_row, row_in, rising_row}
 use Rattle.freelist.proofs.EachLaws.{length_each, each_in, each_out, each_word}
 use Rattle.freelist.proofs.AnswerLaws.{held}
@@ -37,7 +38,7 @@ in_or q (p ∷ ps) = ⊎_elim (λ e. inl (Memᴰ.head e)) (λ n. ⊎_elim (λ m.
 -- or they reach
 pub each_stays : (g : State → State) (low : ℕ) (ps t : List ℕ) (n m : ℕ) → Passes t n → ((p : ℕ) → p ∈ ps → p < 32768) → rising low ps ≡ true
     → 2 ≤ m → m ≤ 32768 → ((q : ℕ) → q ∈ ps → 2 ≤ q → q < m → is_state (g (state_of t q)) ≡ true) → ((q : ℕ) → (q ∈ ps → ⊥) → q < m → q < n)
-    → fault_of (each g ps t) m ≡ 0
+    → fault_of (each g ps t) m ≡ Ok tt
 each_stays g low ps t n m s fit up from to good old =
     let e = length_each g ps t in
     let l = s.long in
@@ -56,10 +57,10 @@ pub each_rest : (g : State → State) (ps t : List ℕ) → 33792 ≤ length t �
 each_rest g ps t long fit i l = each_word g ps t long fit i (omega arith) (λ p m e. let b = fit p m in omega arith)
 
 -- ---- new
-module _ (t : List ℕ) (done : new_number t ≡ 0) where
+module _ (t : List ℕ) (done : new_check t ≡ Ok tt) where
   long : 33792 ≤ length t
-  unfolding new_number has_room
-  long = leb-true 33792 (length t) (held _ 0 done)
+  unfolding new_check has_room
+  long = leb-true 33792 (length t) (held _ _ done)
 
   -- a word of the bits is 0
   new_word : (i : ℕ) → i < 1024 → ◌≡◌ {A = ℕ} (get_or (new_table t) i 0) 0
@@ -90,7 +91,7 @@ module _ (t : List ℕ) (done : new_number t ≡ 0) where
   new_all q l = rw (bit_off q (omega arith), bit_off (32768 + q) (omega arith))
 
   -- so that it passes with every page count that is allowed
-  pub new_passes : (n : ℕ) → count_allowed n ≡ true → fault_of (new_table t) n ≡ 0
+  pub new_passes : (n : ℕ) → count_allowed n ≡ true → fault_of (new_table t) n ≡ Ok tt
   unfolding new_table
   new_passes n ok =
       let l = long in
@@ -101,7 +102,7 @@ module _ (t : List ℕ) (done : new_number t ≡ 0) where
       no_fault (new_table t) n (record { long = omega arith; from = leb-true 2 n c.0; to = to; states = λ k a b. ap is_state (new_all k (omega arith)) })
 
 -- ---- init
-module _ (t : List ℕ) (n : ℕ) (ids : List ℕ) (done : init_number t n ids ≡ 0) where
+module _ (t : List ℕ) (n : ℕ) (ids : List ℕ) (done : init_check t n ids ≡ Ok tt) where
   small : (p : ℕ) → p ∈ ids → p < 32768
   small p m = let s = initiable t n ids done in let o = s.table.to in let b = s.below p m in omega arith
 
@@ -115,7 +116,7 @@ module _ (t : List ℕ) (n : ℕ) (ids : List ℕ) (done : init_number t n ids �
   unfolding init_table
   init_out q l o = each_out (λ s. Free) ids t (initiable t n ids done).table.long small q l o
 
-  pub init_stays : fault_of (init_table t ids) n ≡ 0
+  pub init_stays : fault_of (init_table t ids) n ≡ Ok tt
   unfolding init_table
   init_stays =
       let s = initiable t n ids done in
@@ -126,7 +127,7 @@ module _ (t : List ℕ) (n : ℕ) (ids : List ℕ) (done : init_number t n ids �
   init_rest i l = each_rest (λ s. Free) ids t (initiable t n ids done).table.long small i l
 
 -- ---- free
-module _ (t : List ℕ) (n p count tx : ℕ) (done : free_number t n p count ≡ 0) where
+module _ (t : List ℕ) (n p count tx : ℕ) (done : free_check t n p count ≡ Ok tt) where
   below : (q : ℕ) → q ∈ pages_from p count → q < 32768
   below q m = let s = freeable t n p count done in let a = s.to in let o = s.table.to in omega (arith, (row_in p count q m).1)
 
@@ -140,7 +141,7 @@ module _ (t : List ℕ) (n p count tx : ℕ) (done : free_number t n p count ≡
   unfolding free_table
   free_out q l o = each_out (λ s. Pending tx) (pages_from p count) t (freeable t n p count done).table.long below q l (λ m. let r = row_in p count q m in o r.0 r.1)
 
-  pub free_stays : fault_of (free_table t p count tx) n ≡ 0
+  pub free_stays : fault_of (free_table t p count tx) n ≡ Ok tt
   unfolding free_table
   free_stays =
       let s = (freeable t n p count done).table in
@@ -162,7 +163,7 @@ ripe_state tx (Pending x) h = go (ltb x tx)
     go false = refl
 ripe_state tx Broken h = h
 
-module _ (t : List ℕ) (n tx : ℕ) (done : fault_of t n ≡ 0) where
+module _ (t : List ℕ) (n tx : ℕ) (done : fault_of t n ≡ Ok tt) where
   inner : (q : ℕ) → q ∈ pages_of n → q < 32768
   inner q m = let s = passes t n done in let f = s.from in let o = s.to in omega (arith, (row_in 2 (n - 2) q m).1)
 
@@ -178,7 +179,7 @@ module _ (t : List ℕ) (n tx : ℕ) (done : fault_of t n ≡ 0) where
       let f = (passes t n done).from in
       each_out (ripe tx) (pages_of n) t (passes t n done).long inner q l (λ m. let r = row_in 2 (n - 2) q m in o r.0 (omega (arith, r.1)))
 
-  pub release_stays : fault_of (release_table t n tx) n ≡ 0
+  pub release_stays : fault_of (release_table t n tx) n ≡ Ok tt
   unfolding release_table
   release_stays =
       let s = passes t n done in

@@ -5,7 +5,7 @@ use mathlib.Core.List.{List}
 use mathlib.Core.Bool.{Bool, true, false, cond}
 use Prim.Native.Nat.{ℕ, ◌+◌, ◌/◌, ◌≤◌, ◌<◌}
 use native.Mathlib.Omega.{arith}
-use borrow.Author.Tests.{lt-ltb, le-ltb}
+use borrow.Author.Tests.{le-ltb}
 use lib.ListN.{length, get_or, length-set}
 use lib.Seq.{get_or-set_same, get_or-set_other, set-get_or}
 use Rattle.freelist.specs.declared.table.State.{State}
@@ -130,17 +130,27 @@ put_own t p =
 
 -- ---- what the code of `put_state` and `release_page` has to know
 
-pub put_from : (t u v : List ℕ) (p : ℕ) (a b : Bool) (s r : State)
-    → a ≡ free_bit s → u ≡ put_bit t p a → b ≡ pending_bit s → v ≡ put_bit u (32768 + p) b → s ≡ r → with_number v p r ≡ put t p s
+pub put_from : (t u v : List ℕ) (p : ℕ) (a b : Bool) (s : State)
+    → a ≡ free_bit s → u ≡ put_bit t p a → b ≡ pending_bit s → v ≡ put_bit u (32768 + p) b → with_number v p s ≡ put t p s
 unfolding put
-put_from t u v p a b s r ea eu eb ev es = cc
+put_from t u v p a b s ea eu eb ev = cc
+
+-- the number of a page that is not pending stays
+pub number_kept : (t : List ℕ) (p : ℕ) (s : State) → ((x : ℕ) → s ≡ Pending x → ⊥) → t ≡ with_number t p s
+number_kept t p InUse n = refl
+number_kept t p Free n = refl
+number_kept t p (Pending x) n = absurd (n x refl)
+number_kept t p Broken n = refl
 
 module _ (x : ℕ) where
-  pub ripe_freed : (s : State) (y : ℕ) → s ≡ Pending y → y < x → ripe x s ≡ Free
-  ripe_freed s y e l = ap (ripe x) e ∙ rw (lt-ltb y x l)
-
   pub ripe_kept : (s : State) (y : ℕ) → s ≡ Pending y → x ≤ y → ripe x s ≡ s
   ripe_kept s y e l = ap (ripe x) e ∙ ap (λ (b : Bool). cond b Free (Pending y)) (le-ltb y x l) ∙ sym e
+
+  pub ripe_other : (s : State) → ((y : ℕ) → s ≡ Pending y → ⊥) → ripe x s ≡ s
+  ripe_other InUse n = refl
+  ripe_other Free n = refl
+  ripe_other (Pending y) n = absurd (n y refl)
+  ripe_other Broken n = refl
 
   -- a page that stays as it is is put in its own state
   pub ripe_own : (t : List ℕ) (p : ℕ) → ripe x (state_of t p) ≡ state_of t p → t ≡ put t p (ripe x (state_of t p))

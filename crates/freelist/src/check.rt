@@ -4,7 +4,9 @@ ghost use Rattle.freelist.specs.Table.{state_of, is_state};
 ghost use Rattle.freelist.specs.Pages.{pages_from, pages_of, all};
 ghost use Rattle.freelist.specs.Freelist.{fault_of};
 
-use super::table::{MOST_PAGES, PENDING_WORDS, TABLE_WORDS};
+use super::table::{PENDING_WORDS, TABLE_WORDS};
+use field::Refusal;
+use field::sizes::count_allowed;
 
 // Whether none of the `k` pages from `i` on, which share a word, has both bits.
 fn word_passes(t: &[u64], i: u64, k: u64) -> bool
@@ -25,10 +27,8 @@ fn words_pass(t: &[u64], m: usize) -> bool
     ensures { result ≡ all (λ p. is_state (state_of t.now p)) (pages_from 64 (64 * m - 64)) }
 {
     let mut bad = 0;
-    let mut i = 1;
-    while i < m {
-        bad = bad | (t[i] & t[PENDING_WORDS + i]);
-        i += 1;
+    for i in 1..m {
+        bad |= t[i] & t[PENDING_WORDS + i];
     }
     bad == 0
 }
@@ -41,30 +41,18 @@ fn all_states(t: &[u64], n: u64) -> bool
     if n < 64 {
         return word_passes(t, 2, n - 2);
     }
-    if !word_passes(t, 2, 62) {
-        return false;
-    }
-    if !words_pass(t, (n / 64) as usize) {
-        return false;
-    }
-    word_passes(t, n - n % 64, n % 64)
+    word_passes(t, 2, 62) && words_pass(t, (n / 64) as usize) && word_passes(t, n - n % 64, n % 64)
 }
 
-// The number that a table and a page count give before any other cause, 0 where they pass.
-pub fn fault(t: &[u64], n: u64) -> u64
+// Ok where a table and a page count pass, and else what is wrong with them.
+pub fn check_table(t: &[u64], n: u64) -> Result<(), Refusal>
     ensures { result ≡ fault_of t.now n }
 {
-    if t.len() < TABLE_WORDS {
-        return 1;
+    if t.len() < TABLE_WORDS || !count_allowed(n as usize) {
+        return Err(Refusal::Geometry);
     }
-    if n < 2 {
-        return 1;
+    if !all_states(t, n) {
+        return Err(Refusal::Argument);
     }
-    if n > MOST_PAGES {
-        return 1;
-    }
-    if all_states(t, n) {
-        return 0;
-    }
-    11
+    Ok(())
 }

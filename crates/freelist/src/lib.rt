@@ -3,8 +3,8 @@
 #![tactic(auto)]
 
 ghost use Rattle.std.specs.Prelude.{◌≡◌};
-ghost use Rattle.freelist.specs.Answers.{on_done, answer_of, answer_number, allocated_number, listed_number};
-ghost use Rattle.freelist.specs.Freelist.{fault_of, new_number, new_table, init_number, init_table, free_number, free_table, release_table, allocate_answer, allocate_table, pages_answer, pages_list, size_answer};
+ghost use Rattle.field.specs.Refusal.{on_ok};
+ghost use Rattle.freelist.specs.Freelist.{fault_of, new_check, new_table, init_check, init_table, free_check, free_table, release_table, allocate_answer, allocate_table, pages_answer, pages_list, size_answer};
 
 mod check;
 mod list;
@@ -12,10 +12,11 @@ mod row;
 mod run;
 mod table;
 
-use check::fault;
-use list::{count_listed, free_each, init_number, write_listed};
-use row::{free_number, put_all, release_all};
-use run::{lowest_run, pages_needed, request_fault};
+use check::check_table;
+use field::Refusal;
+use list::{check_initial, count_listed, free_each, write_listed};
+use row::{check_used, put_all, release_all};
+use run::{check_request, lowest_run, pages_needed};
 pub use table::State;
 use table::{MOST_PAGES, TABLE_WORDS, clear_bits};
 
@@ -24,131 +25,94 @@ const HEADER_SIZE: u64 = 40;
 
 const PAGE_ID_SIZE: u64 = 8;
 
-// What `new`, `init`, `free` and `release` answer.
+// What `allocate` hands out: the first page, and the count of pages from then on.
 #[derive(Clone, Copy)]
-pub enum Answer {
-    Done,
-    Refused(u64),
+pub struct Allocated {
+    pub start: u64,
+    pub count: u64,
 }
 
-// What `allocate` answers: the first page handed out, and the count of pages from then on.
-#[derive(Clone, Copy)]
-pub enum Allocated {
-    At(u64, u64),
-    Refused(u64),
-}
-
-// What `pages` answers: how many ids were written.
-#[derive(Clone, Copy)]
-pub enum Listed {
-    Count(u64),
-    Refused(u64),
-}
-
-// What `size` answers.
-#[derive(Clone, Copy)]
-pub enum Measured {
-    Bytes(u64),
-    Refused(u64),
-}
-
-// Makes a new table, all pages in use. A table too short for 32,768 pages is 1.
-pub fn new(table: &mut [u64]) -> Answer
-    ensures answer { result ≡ answer_of (new_number table.old) }
-    ensures lent { table.new ≡ on_done (answer_number result) (new_table table.old) table.old }
+// Makes a new table, all pages in use. A table too short for 32,768 pages is refused.
+pub fn new(table: &mut [u64]) -> Result<(), Refusal>
+    ensures answer { result ≡ new_check table.old }
+    ensures lent { table.new ≡ on_ok result (new_table table.old) table.old }
 {
     if table.len() < TABLE_WORDS {
-        return Answer::Refused(1);
+        return Err(Refusal::Geometry);
     }
     clear_bits(table);
-    Answer::Done
+    Ok(())
 }
 
-// Frees the pages of the initial list, which rise strictly, each from 2 to n - 1 and in use, else 11.
-pub fn init(table: &mut [u64], n: u64, ids: &[u64]) -> Answer
-    ensures answer { result ≡ answer_of (init_number table.old n ids.now) }
-    ensures lent { table.new ≡ on_done (answer_number result) (init_table table.old ids.now) table.old }
+// Frees the pages of the initial list, which rise strictly, each from 2 to n - 1 and in use, or else are refused.
+pub fn init(table: &mut [u64], n: u64, ids: &[u64]) -> Result<(), Refusal>
+    ensures answer { result ≡ init_check table.old n ids.now }
+    ensures lent { table.new ≡ on_ok result (init_table table.old ids.now) table.old }
 {
-    let bad = init_number(table, n, ids);
-    if bad != 0 {
-        return Answer::Refused(bad);
-    }
+    check_initial(table, n, ids)?;
     free_each(table, ids);
-    Answer::Done
+    Ok(())
 }
 
-// Makes `count` pages from `p` on pending under `tx`: at least one, all inside 2 to n - 1 and in use, else 11.
-pub fn free(table: &mut [u64], n: u64, p: u64, count: u64, tx: u64) -> Answer
-    ensures answer { result ≡ answer_of (free_number table.old n p count) }
-    ensures lent { table.new ≡ on_done (answer_number result) (free_table table.old p count tx) table.old }
+// Makes `count` pages from `p` on pending under `tx`: at least one, all inside 2 to n - 1 and in use, or else refused.
+pub fn free(table: &mut [u64], n: u64, p: u64, count: u64, tx: u64) -> Result<(), Refusal>
+    ensures answer { result ≡ free_check table.old n p count }
+    ensures lent { table.new ≡ on_ok result (free_table table.old p count tx) table.old }
 {
-    let bad = free_number(table, n, p, count);
-    if bad != 0 {
-        return Answer::Refused(bad);
-    }
+    check_used(table, n, p, count)?;
     put_all(table, p, count, State::Pending(tx));
-    Answer::Done
+    Ok(())
 }
 
 // Frees every page that is pending under a number below `tx`.
-pub fn release(table: &mut [u64], n: u64, tx: u64) -> Answer
-    ensures answer { result ≡ answer_of (fault_of table.old n) }
-    ensures lent { table.new ≡ on_done (answer_number result) (release_table table.old n tx) table.old }
+pub fn release(table: &mut [u64], n: u64, tx: u64) -> Result<(), Refusal>
+    ensures answer { result ≡ fault_of table.old n }
+    ensures lent { table.new ≡ on_ok result (release_table table.old n tx) table.old }
 {
-    let bad = fault(table, n);
-    if bad != 0 {
-        return Answer::Refused(bad);
-    }
+    check_table(table, n)?;
     release_all(table, n, tx);
-    Answer::Done
+    Ok(())
 }
 
-// Hands out pages for `bytes`: the lowest run of free pages, or else pages from `n` on, by which the count grows; 12 past 32,768.
-pub fn allocate(table: &mut [u64], n: u64, page_size: u64, bytes: u64) -> Allocated
+// Hands out pages for `bytes`: the lowest run of free pages, or else pages from `n` on, by which the count grows; full past 32,768.
+pub fn allocate(table: &mut [u64], n: u64, page_size: u64, bytes: u64) -> Result<Allocated, Refusal>
     ensures answer { result ≡ allocate_answer table.old n page_size bytes }
-    ensures lent { table.new ≡ on_done (allocated_number result) (allocate_table table.old n page_size bytes) table.old }
+    ensures lent { table.new ≡ on_ok result (allocate_table table.old n page_size bytes) table.old }
 {
-    let bad = request_fault(table, n, page_size, bytes);
-    if bad != 0 {
-        return Allocated::Refused(bad);
-    }
+    check_request(table, n, page_size, bytes)?;
     let pages = pages_needed(bytes, page_size);
-    let start = lowest_run(table, n, pages);
-    if start < n {
+    if let Some(start) = lowest_run(table, n, pages) {
         put_all(table, start, pages, State::InUse);
-        return Allocated::At(start, n);
+        return Ok(Allocated { start, count: n });
     }
     if MOST_PAGES - n < pages {
-        return Allocated::Refused(12);
+        return Err(Refusal::Full);
     }
     put_all(table, n, pages, State::InUse);
-    Allocated::At(n, n + pages)
+    Ok(Allocated {
+        start: n,
+        count: n + pages,
+    })
 }
 
-// Writes the free and pending ids, rising, from `ids[0]` on. A list too short for them is 10.
-pub fn pages(table: &[u64], n: u64, ids: &mut [u64]) -> Listed
+// How many free and pending ids were written to `ids`, rising, from `ids[0]` on. A list too short for them is refused.
+pub fn pages(table: &[u64], n: u64, ids: &mut [u64]) -> Result<u64, Refusal>
     ensures answer { result ≡ pages_answer table.now n ids.old }
-    ensures lent { ids.new ≡ on_done (listed_number result) (pages_list table.now n ids.old) ids.old }
+    ensures lent { ids.new ≡ on_ok result (pages_list table.now n ids.old) ids.old }
 {
-    let bad = fault(table, n);
-    if bad != 0 {
-        return Listed::Refused(bad);
-    }
+    check_table(table, n)?;
     let count = count_listed(table, n);
     if (ids.len() as u64) < count {
-        return Listed::Refused(10);
+        return Err(Refusal::OutputShort);
     }
     write_listed(table, n, ids);
-    Listed::Count(count)
+    Ok(count)
 }
 
-// The size of the freelist: 40 plus 8 for each free or pending page.
-pub fn size(table: &[u64], n: u64) -> Measured
+// The size of the freelist in bytes: 40 plus 8 for each free or pending page.
+pub fn size(table: &[u64], n: u64) -> Result<u64, Refusal>
     ensures answer { result ≡ size_answer table.now n }
 {
-    let bad = fault(table, n);
-    if bad != 0 {
-        return Measured::Refused(bad);
-    }
-    Measured::Bytes(HEADER_SIZE + PAGE_ID_SIZE * count_listed(table, n))
+    check_table(table, n)?;
+    Ok(HEADER_SIZE + PAGE_ID_SIZE * count_listed(table, n))
 }

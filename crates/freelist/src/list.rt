@@ -1,10 +1,11 @@
 // Lists of page numbers: the initial list, and the listing of free and pending pages.
 ghost use Rattle.std.specs.Prelude.{◌≡◌, ℕ, ◌<◌, ◌≤◌, length, get_or};
 ghost use Rattle.freelist.specs.Table.{state_of, is_listed};
-ghost use Rattle.freelist.specs.Freelist.{initial, init_number, init_table, listing, pages_list};
+ghost use Rattle.freelist.specs.Freelist.{initial, init_check, init_table, listing, pages_list};
 
-use super::check::fault;
+use super::check::check_table;
 use super::table::{PENDING_WORDS, State, is_in_use, put_state, state_of};
+use field::Refusal;
 
 // Whether the ids rise strictly, and each is from 2 to n - 1 and in use.
 fn is_initial(t: &[u64], n: u64, ids: &[u64]) -> bool
@@ -12,36 +13,24 @@ fn is_initial(t: &[u64], n: u64, ids: &[u64]) -> bool
     ensures { result ≡ initial t.now n ids.now }
 {
     let mut low = 2;
-    let mut i = 0;
-    while i < ids.len() {
-        let id = ids[i];
-        if id < low {
-            return false;
-        }
-        if n <= id {
-            return false;
-        }
-        if !is_in_use(state_of(t, id)) {
+    for &id in ids {
+        if id < low || n <= id || !is_in_use(state_of(t, id)) {
             return false;
         }
         low = id + 1;
-        i += 1;
     }
     true
 }
 
-// The number that `init` answers.
-pub fn init_number(t: &[u64], n: u64, ids: &[u64]) -> u64
-    ensures { result ≡ init_number t.now n ids.now }
+// Ok where `init` takes the ids, and else why it refuses.
+pub fn check_initial(t: &[u64], n: u64, ids: &[u64]) -> Result<(), Refusal>
+    ensures { result ≡ init_check t.now n ids.now }
 {
-    let bad = fault(t, n);
-    if bad != 0 {
-        return bad;
+    check_table(t, n)?;
+    if !is_initial(t, n, ids) {
+        return Err(Refusal::Argument);
     }
-    if is_initial(t, n, ids) {
-        return 0;
-    }
-    11
+    Ok(())
 }
 
 // Frees each of the ids.
@@ -49,10 +38,8 @@ pub fn free_each(t: &mut [u64], ids: &[u64])
     requires { ((k : ℕ) → k < length ids.now → get_or ids.now k 0 < 32768) × (33792 ≤ length t.old) }
     ensures { t.new ≡ init_table t.old ids.now }
 {
-    let mut i = 0;
-    while i < ids.len() {
-        put_state(t, ids[i], State::Free);
-        i += 1;
+    for &id in ids {
+        put_state(t, id, State::Free);
     }
 }
 
@@ -72,13 +59,9 @@ pub fn count_listed(t: &[u64], n: u64) -> u64
     ensures { (result ≡ length (listing t.now n)) × (result ≤ n) }
 {
     let mut count = 0;
-    let mut i = 2;
-    while i < n {
+    for i in 2..n {
         if is_listed(t, i) {
             count += 1;
-            i += 1;
-        } else {
-            i += 1;
         }
     }
     count
@@ -90,14 +73,10 @@ pub fn write_listed(t: &[u64], n: u64, ids: &mut [u64])
     ensures { ids.new ≡ pages_list t.now n ids.old }
 {
     let mut at = 0;
-    let mut i = 2;
-    while i < n {
+    for i in 2..n {
         if is_listed(t, i) {
             ids[at] = i;
             at += 1;
-            i += 1;
-        } else {
-            i += 1;
         }
     }
 }

@@ -43,11 +43,7 @@ fn put_bit(t: &mut [u64], j: u64, on: bool)
     let at = (j / 64) as usize;
     let one = 1u64 << (j % 64);
     let w = t[at] | one;
-    if on {
-        t[at] = w;
-    } else {
-        t[at] = w ^ one;
-    }
+    t[at] = if on { w } else { w ^ one };
 }
 
 // Makes every bit off, so that each page is in use.
@@ -55,11 +51,7 @@ pub fn clear_bits(t: &mut [u64])
     requires { 1024 ≤ length t.old }
     ensures { t.new ≡ new_table t.old }
 {
-    let mut i = 0;
-    while i < BIT_WORDS {
-        t[i] = 0;
-        i += 1;
-    }
+    t[..BIT_WORDS].fill(0);
 }
 
 // The state of page `k`.
@@ -67,17 +59,12 @@ pub fn state_of(t: &[u64], k: u64) -> State
     requires { (k < 32768) × (33792 ≤ length t.now) }
     ensures { result ≡ state_of t.now k }
 {
-    if bit_of(t, k) {
-        if bit_of(t, PENDING_BITS + k) {
-            return State::Broken;
-        }
-        return State::Free;
+    match (bit_of(t, k), bit_of(t, PENDING_BITS + k)) {
+        (false, false) => State::InUse,
+        (true, false) => State::Free,
+        (false, true) => State::Pending(t[(NUMBERS + k) as usize]),
+        (true, true) => State::Broken,
     }
-    if bit_of(t, PENDING_BITS + k) {
-        let at = (NUMBERS + k) as usize;
-        return State::Pending(t[at]);
-    }
-    State::InUse
 }
 
 // Puts page `p` in the state `s`.
@@ -87,14 +74,8 @@ pub fn put_state(t: &mut [u64], p: u64, s: State)
 {
     put_bit(t, p, free_bit(s));
     put_bit(t, PENDING_BITS + p, pending_bit(s));
-    match s {
-        State::InUse => {}
-        State::Free => {}
-        State::Pending(x) => {
-            let at = (NUMBERS + p) as usize;
-            t[at] = x;
-        }
-        State::Broken => {}
+    if let State::Pending(x) = s {
+        t[(NUMBERS + p) as usize] = x;
     }
 }
 
@@ -102,34 +83,19 @@ pub fn put_state(t: &mut [u64], p: u64, s: State)
 fn free_bit(s: State) -> bool
     ensures { result ≡ free_bit s }
 {
-    match s {
-        State::InUse => false,
-        State::Free => true,
-        State::Pending(_) => false,
-        State::Broken => true,
-    }
+    matches!(s, State::Free | State::Broken)
 }
 
 // The pending bit of a page in the state `s`.
 fn pending_bit(s: State) -> bool
     ensures { result ≡ pending_bit s }
 {
-    match s {
-        State::InUse => false,
-        State::Free => false,
-        State::Pending(_) => true,
-        State::Broken => true,
-    }
+    matches!(s, State::Pending(_) | State::Broken)
 }
 
 // Whether `s` is in use.
 pub fn is_in_use(s: State) -> bool
     ensures { result ≡ is_in_use s }
 {
-    match s {
-        State::InUse => true,
-        State::Free => false,
-        State::Pending(_) => false,
-        State::Broken => false,
-    }
+    matches!(s, State::InUse)
 }

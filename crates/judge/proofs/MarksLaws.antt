@@ -7,16 +7,22 @@ use mathlib.Core.Logic.{◌⊎◌, inl, inr, ⊎_elim}
 use mathlib.Core.Option.{none, some}
 use Prim.Native.Nat.{ℕ, zero, suc, ◌+◌, ◌-◌, ◌≤◌, ◌<◌}
 use native.Mathlib.Omega.{arith}
-use borrow.Author.Tests.{eq-eqb, ne_eqb, eqb-true, eqb-false, le-ltb}
+use borrow.Author.Tests.{eq-eqb, ne_eqb, eqb-true, eqb-false, ltb-true, ltb-false}
 use lib.Arith.{lt_of_le-ne}
 use lib.Dec.{eqb, ltb}
 use lib.ListN.{length}
+use Rattle.std.specs.Prelude.{Ok, Err}
+use Rattle.std.specs.declared.result.Result.{Result}
+use Rattle.field.specs.Refusal.{on_ok}
+use Rattle.field.specs.declared.refusal.Refusal.TheVariants.{UsedTwice}
 use Rattle.field.specs.Marks.{mark, is_marked, with_mark, with_marks, lowest_marked, no_marks, count_below, count}
 use Rattle.field.proofs.BitLaws.{same_or}
 use Rattle.field.proofs.MarkLaws.{mark_lt, with_same, with_other, count_with, mark_none, count_none, length_with, length_withs, lowest_none, lowest_le}
 use Rattle.walk.specs.Tree.{memb, first_in}
+use Rattle.view.specs.declared.Fault.{Fault}
+use Rattle.view.specs.Fault.{fault_at}
 use Rattle.view.specs.View.{pages_from}
-use Rattle.judge.specs.Walk.{Marks}
+use Rattle.judge.specs.Walk.{taken_of, Marks}
 
 -- ---- no page, and one more
 pub marks_none : Marks no_marks []
@@ -111,27 +117,42 @@ first_clear (suc k) q m vs h small clear =
     (first_clear k (q + 1) m vs h (omega arith) (λ j l g. clear j (omega arith) (omega arith)))
 
 -- ---- what `take_pages` answers and leaves, of the pages from q up to end
-module _ (m m' : List ℕ) (q end r : ℕ) (long : length m ≡ 512) (order : q ≤ end) (small : end ≤ 32768)
-    (told : (r ≡ lowest_marked m q (end - q)) × (m' ≡ cond (ltb r end) m (with_marks m q (end - q))))
+module _ (m m' : List ℕ) (q end : ℕ) (r : Result Unit Fault) (long : length m ≡ 512) (order : q ≤ end) (small : end ≤ 32768)
+    (told : (r ≡ taken_of m q end) × (m' ≡ on_ok r (with_marks m q (end - q)) m))
   where
     pub taken_length : length m' ≡ 512
-    taken_length = rw told.1 (go (ltb r end))
+    taken_length = rw told.1 (go r)
       where
-        go : (t : Bool) → length (cond t m (with_marks m q (end - q))) ≡ 512
-        go true = long
-        go false = length_withs m q (end - q) ∙ long
+        go : (x : Result Unit Fault) → length (on_ok x (with_marks m q (end - q)) m) ≡ 512
+        go (Ok u) = length_withs m q (end - q) ∙ long
+        go (Err f) = long
 
-    pub taken_twice : r < end → (vs : List ℕ) → Marks m vs → first_in (pages_from q (end - q)) vs ≡ some r
-    taken_twice l vs h =
-        let e = told.0 in
-        first_lowest (end - q) q m vs h (omega arith) (omega arith) ∙ ap some (sym e)
+    -- a fault names the first page of these that was visited
+    pub taken_twice : (f : Fault) → r ≡ Err f → (vs : List ℕ) → Marks m vs
+        → (page : ℕ) × (first_in (pages_from q (end - q)) vs ≡ some page) × (f ≡ fault_at UsedTwice page 0 0)
+    taken_twice f e vs h = go (ltb (lowest_marked m q (end - q)) end) refl (sym told.0 ∙ e)
+      where
+        go : (t : Bool) → ltb (lowest_marked m q (end - q)) end ≡ t → cond t (Err (fault_at UsedTwice (lowest_marked m q (end - q)) 0 0)) (Ok (tt {0})) ≡ Err f
+            → (page : ℕ) × (first_in (pages_from q (end - q)) vs ≡ some page) × (f ≡ fault_at UsedTwice page 0 0)
+        go true l g =
+            let l = ltb-true _ _ l in
+            (lowest_marked m q (end - q), first_lowest (end - q) q m vs h (omega arith) (omega arith), cc)
+        go false l g = absurd (let z : ◌≡◌ {A = ℕ} 0 1 = cc in omega arith)
 
-    module _ (all : end ≤ r) where
+    module _ (passed : r ≡ Ok tt) where
+      all : end ≤ lowest_marked m q (end - q)
+      all = go (ltb (lowest_marked m q (end - q)) end) refl (sym told.0 ∙ passed)
+        where
+          go : (t : Bool) → ltb (lowest_marked m q (end - q)) end ≡ t → cond t (Err (fault_at UsedTwice (lowest_marked m q (end - q)) 0 0)) (Ok (tt {0})) ≡ Ok (tt {0})
+              → end ≤ lowest_marked m q (end - q)
+          go true l g = absurd (let z : ◌≡◌ {A = ℕ} 0 1 = cc in omega arith)
+          go false l g = ltb-false _ _ l
+
       clear : Clear m q (end - q)
-      clear = let e = told.0 in lowest_none m q (end - q) (omega (arith, lowest_le m q (end - q)))
+      clear = lowest_none m q (end - q) (omega (arith, all, lowest_le m q (end - q)))
 
       left_with : m' ≡ with_marks m q (end - q)
-      left_with = told.1 ∙ rw (le-ltb r end all)
+      left_with = told.1 ∙ rw passed
 
       pub taken_first : (vs : List ℕ) → Marks m vs → first_in (pages_from q (end - q)) vs ≡ none
       taken_first vs h = first_clear (end - q) q m vs h (omega arith) clear

@@ -1,17 +1,18 @@
 // The freelist page, after the tree.
 ghost use Rattle.std.specs.Prelude.{◌≡◌, false, List, ℕ, ◌+◌, ◌-◌, ◌*◌, ◌≤◌, ◌<◌, length};
 ghost use Rattle.page.specs.Layout.{count_of};
-ghost use Rattle.page.specs.PageRules.{no_common, first_bad};
+ghost use Rattle.page.specs.PageRules.{no_common, first_bad, breach};
 ghost use Rattle.view.specs.Geometry.{SoundSizes};
-ghost use Rattle.view.specs.Fault.{fault_at};
 ghost use Rattle.judge.specs.Judge.{free_header_bad, id_at, id_outside, id_not_above, id_marked, ids_of, freelist_of};
 ghost use Rattle.judge.specs.Walk.{Marks};
 
-use super::Judged;
+use super::Counts;
+use super::fault::{on_page, page_fault};
 use super::pages::take_pages;
+use field::Refusal;
 use field::marks::{count_marks, is_marked};
 use field::number::u64_at;
-use page::Verdict;
+use page::Breach;
 use page::layout::{count, id, overflow, page_type};
 use view::Fault;
 use view::image::{block, from_page, inside};
@@ -40,80 +41,69 @@ fn id_at(b: &[u8], i: usize) -> usize
     u64_at(b, 32 + 8 * i) as usize
 }
 
-// The first id that is not one of 2 to n - 1.
-fn first_outside(b: &[u8], n: usize, c: usize) -> Verdict
-    requires { 32 + 8 * c ≤ length b.now }
-    ensures { result ≡ first_bad (id_outside n b.now) no_common 5 c 0 }
+// The refusal of id `i`.
+fn id_breach(refusal: Refusal, i: usize) -> Breach
+    ensures { result ≡ breach refusal i 0 }
 {
-    let mut i = 0;
-    while i < c {
-        if !inside(n, id_at(b, i)) {
-            return Verdict::Breach(5, i, 0);
-        }
-        i += 1;
+    Breach {
+        refusal,
+        element: i,
+        common: 0,
     }
-    Verdict::Sound
+}
+
+// The first id that is not one of 2 to n - 1.
+fn first_outside(b: &[u8], n: usize, c: usize) -> Result<(), Breach>
+    requires { 32 + 8 * c ≤ length b.now }
+    ensures { result ≡ first_bad (id_outside n b.now) no_common Refusal.Element c 0 }
+{
+    for i in 0..c {
+        if !inside(n, id_at(b, i)) {
+            return Err(id_breach(Refusal::Element, i));
+        }
+    }
+    Ok(())
 }
 
 // The first id that is not above the one before it.
-fn first_not_above(b: &[u8], c: usize) -> Verdict
+fn first_not_above(b: &[u8], c: usize) -> Result<(), Breach>
     requires { 32 + 8 * c ≤ length b.now }
-    ensures { result ≡ first_bad (id_not_above b.now) no_common 6 (c - 1) 1 }
+    ensures { result ≡ first_bad (id_not_above b.now) no_common Refusal.KeyOrder (c - 1) 1 }
 {
-    let mut i = 1;
-    while i < c {
+    for i in 1..c {
         if id_at(b, i) <= id_at(b, i - 1) {
-            return Verdict::Breach(6, i, 0);
+            return Err(id_breach(Refusal::KeyOrder, i));
         }
-        i += 1;
     }
-    Verdict::Sound
+    Ok(())
 }
 
 // The first id that is marked.
-fn first_marked(b: &[u8], c: usize, marks: [u64; 512]) -> Verdict
+fn first_marked(b: &[u8], c: usize, marks: &[u64; 512]) -> Result<(), Breach>
     requires { (32 + 8 * c ≤ length b.now) × ((i : ℕ) → i < c → id_at b.now i < 32768) }
-    ensures { (vs : List ℕ) → Marks marks vs → result ≡ first_bad (id_marked vs b.now) no_common 8 c 0 }
+    ensures { (vs : List ℕ) → Marks marks.now vs → result ≡ first_bad (id_marked vs b.now) no_common Refusal.UsedTwice c 0 }
 {
-    let mut i = 0;
-    while i < c {
+    for i in 0..c {
         let page = id_at(b, i);
         if is_marked(marks[page / 64], page as u64) {
-            return Verdict::Breach(8, i, 0);
+            return Err(id_breach(Refusal::UsedTwice, i));
         }
-        i += 1;
     }
-    Verdict::Sound
+    Ok(())
 }
 
 // The rules of a freelist block's table and ids.
-fn check_ids(b: &[u8], n: usize, marks: [u64; 512]) -> Verdict
+fn check_ids(b: &[u8], n: usize, marks: &[u64; 512]) -> Result<(), Breach>
     requires { (32 ≤ length b.now) × (n ≤ 32768) }
-    ensures { (vs : List ℕ) → Marks marks vs → result ≡ ids_of n vs b.now }
+    ensures { (vs : List ℕ) → Marks marks.now vs → result ≡ ids_of n vs b.now }
 {
     let c = count(b);
     if (b.len() - 32) / 8 < c {
-        return Verdict::Breach(4, 0, 0);
+        return Err(Breach::from(Refusal::Table));
     }
-    match first_outside(b, n, c) {
-        Verdict::Breach(number, i, common) => Verdict::Breach(number, i, common),
-        Verdict::Sound => match first_not_above(b, c) {
-            Verdict::Breach(number, i, common) => Verdict::Breach(number, i, common),
-            Verdict::Sound => first_marked(b, c, marks),
-        },
-    }
-}
-
-// The refusal with this number, page, element and length of a common beginning.
-pub fn refused(number: u64, page: usize, element: usize, common: usize) -> Judged
-    ensures { result ≡ Judged.Refused (fault_at number page element common) }
-{
-    Judged::Refused(Fault {
-        number,
-        page,
-        element,
-        common,
-    })
+    first_outside(b, n, c)?;
+    first_not_above(b, c)?;
+    first_marked(b, c, marks)
 }
 
 // The judge's answer after a tree of so many leaf entries, the pages of whose blocks are marked.
@@ -124,25 +114,23 @@ pub fn after_tree(
     f: usize,
     entries: usize,
     marks: [u64; 512],
-) -> Judged
+) -> Result<Counts, Fault>
     requires { SoundSizes image.now p n }
     ensures { (vs : List ℕ) → Marks marks vs → result ≡ freelist_of image.now p n f entries vs }
 {
     if !inside(n, f) {
-        return refused(2, f, 0, 0);
+        return Err(page_fault(Refusal::PageNumber, f));
     }
     let s = from_page(image, p, n, f);
     if free_header_bad(s, n, f) {
-        return refused(3, f, 0, 0);
+        return Err(page_fault(Refusal::Header, f));
     }
     let end = f + overflow(s) + 1;
     let mut marked = marks;
-    let twice = take_pages(&mut marked, f, end);
-    if twice < end {
-        return refused(8, twice, 0, 0);
-    }
-    match check_ids(block(image, p, n, f), n, marked) {
-        Verdict::Breach(number, i, common) => refused(number, f, i, common),
-        Verdict::Sound => Judged::Sound(entries, count_marks(marked) as usize),
-    }
+    take_pages(&mut marked, f, end)?;
+    on_page(f, check_ids(block(image, p, n, f), n, &marked))?;
+    Ok(Counts {
+        entries,
+        pages: count_marks(marked) as usize,
+    })
 }

@@ -2,23 +2,26 @@
 
 #![tactic(auto)]
 
+mod fault;
 mod freelist;
 mod pages;
 mod range;
 
-ghost use Rattle.std.specs.Prelude.{◌≡◌, false, cond, ◌||◌, List, ◌++◌, ℕ, ◌+◌, ◌*◌, ◌≤◌, ◌<◌, ltb, length};
-ghost use Rattle.std.proofs.Math.Option.{none};
+ghost use Rattle.std.specs.Prelude.{◌≡◌, true, false, cond, List, [], ◌++◌, ℕ, ◌+◌, ◌*◌, ◌≤◌, ◌<◌, ltb, length};
+ghost use Rattle.std.proofs.Math.Option.{none, some};
 ghost use Rattle.field.specs.Marks.{count as count_marked};
 ghost use Rattle.page.specs.Layout.{key_of, count_of};
 ghost use Rattle.page.specs.PageRules.{SoundBlock};
+ghost use Rattle.walk.specs.Tree.{walk as walk_of};
 ghost use Rattle.view.specs.Geometry.{SoundSizes};
 ghost use Rattle.view.specs.View.{view_of, pages_of};
-ghost use Rattle.view.specs.Fault.{fault_at};
-ghost use Rattle.judge.specs.Judge.{judge_of, after_tree};
+ghost use Rattle.judge.specs.Judge.{judge_of};
 ghost use Rattle.judge.specs.Walk.{upper_of, met_of, NoBreach, Branching, children_of, Marks, Says};
 
+use fault::page_fault;
+use field::Refusal;
 use field::marks::no_marks;
-use freelist::{after_tree, refused};
+use freelist::after_tree;
 use page::layout::{child, key, overflow};
 use page::rules::header_bad;
 use pages::take_pages;
@@ -26,74 +29,22 @@ use range::{Page, judge_page};
 use view::image::{block, from_page, geometry_bad, inside};
 use view::{Fault, LEVELS};
 
-// What the judge answers: the leaf entries and the pages reached, or the first breach.
+// What the judge counts: the leaf entries and the pages reached.
 #[derive(Clone, Copy)]
-pub enum Judged {
-    Sound(usize, usize),
-    Refused(Fault),
-}
-
-// How the walk of a subtree ended: with the number of its leaf entries, or with a breach.
-#[derive(Clone, Copy)]
-pub enum Outcome {
-    Passed(usize),
-    Broken(Fault),
-}
-
-// The marks after the walk of a subtree, and how it ended.
-#[derive(Drop)]
-pub struct Walked {
-    pub marks: [u64; 512],
-    pub outcome: Outcome,
-}
-
-// A walk that ended with a breach.
-fn broken(marks: [u64; 512], number: u64, page: usize, element: usize, common: usize) -> Walked
-    ensures { (result.outcome ≡ Outcome.Broken (fault_at number page element common)) × (result.marks ≡ marks) }
-{
-    let f = Fault {
-        number,
-        page,
-        element,
-        common,
-    };
-    Walked {
-        marks,
-        outcome: Outcome::Broken(f),
-    }
-}
-
-// A walk that ended with so many leaf entries.
-fn passed(marks: [u64; 512], entries: usize) -> Walked
-    ensures { (result.outcome ≡ Outcome.Passed entries) × (result.marks ≡ marks) }
-{
-    Walked {
-        marks,
-        outcome: Outcome::Passed(entries),
-    }
+pub struct Counts {
+    pub entries: usize,
+    pub pages: usize,
 }
 
 // The upper end of child `i`'s range: the next separator, or the branch's own for the last of `c` children.
-fn upper<'a>(b: &'a [u8], i: usize, c: usize, high: &'a [u8]) -> &'a [u8]
+fn upper<'a>(b: &'a [u8], i: usize, c: usize, high: Option<&'a [u8]>) -> Option<&'a [u8]>
     requires { (c ≡ count_of b.now) × SoundBlock false false b.now × (i < c) }
-    ensures { result.now ≡ cond (ltb (i + 1) c) (key_of false b.now (i + 1)) high.now }
+    ensures { upper_of result ≡ cond (ltb (i + 1) c) (some (key_of false b.now (i + 1))) (upper_of high.entry) }
 {
     if i + 1 < c {
-        key(b, false, i + 1)
-    } else {
-        high
+        return Some(key(b, false, i + 1));
     }
-}
-
-// Whether child `i`'s range has an upper end.
-fn has_upper(i: usize, c: usize, bounded: bool) -> bool
-    requires { i < c }
-    ensures { result ≡ (ltb (i + 1) c || bounded) }
-{
-    if i + 1 < c {
-        return true;
-    }
-    bounded
+    high
 }
 
 // The verdict on page `q` when the walk meets it with `left` levels to spend: rules 1, 2, 4, 3 and then 5 to 8. The pages of its block are marked from rule 3 on.
@@ -105,122 +56,89 @@ fn meet(
     top: bool,
     q: usize,
     low: &[u8],
-    high: &[u8],
-    bounded: bool,
-    marks: &mut [u64],
-) -> Page
-    requires { SoundSizes image.now p n × (length marks.old ≡ 512) }
+    high: Option<&[u8]>,
+    marks: &mut [u64; 512],
+) -> Result<Page, Fault>
+    requires { SoundSizes image.now p n }
     ensures says { (vs : List ℕ) → Marks marks.old vs
-        → (result ≡ met_of n (pages_of image.now p n) (view_of image.now p n) left top q low.now (upper_of bounded high.now) vs)
+        → (result ≡ met_of n (pages_of image.now p n) (view_of image.now p n) left top q low.now (upper_of high.entry) vs)
         × (NoBreach result → Marks marks.new (pages_of image.now p n q ++ vs)) }
-    ensures keeps_length { (length marks.new ≡ 512) × (NoBreach result → count_marked marks.old < count_marked marks.new) }
+    ensures more { NoBreach result → count_marked marks.old < count_marked marks.new }
 {
     if left == 0 {
-        return Page::Breach(9, q, 0, 0);
+        return Err(page_fault(Refusal::TooDeep, q));
     }
     if !inside(n, q) {
-        return Page::Breach(2, q, 0, 0);
+        return Err(page_fault(Refusal::PageNumber, q));
     }
     let s = from_page(image, p, n, q);
     if header_bad(s, n, q) {
-        return Page::Breach(3, q, 0, 0);
+        return Err(page_fault(Refusal::Header, q));
     }
     let end = q + overflow(s) + 1;
-    let twice = take_pages(marks, q, end);
-    if twice < end {
-        return Page::Breach(8, twice, 0, 0);
-    }
-    judge_page(image, p, n, q, top, low, high, bounded)
+    take_pages(marks, q, end)?;
+    judge_page(image, p, n, q, top, low, high)
 }
 
-// The walk of the `c` children of branch `q`, with `left` levels to spend, its upper end, and the pages marked before them.
-fn walk<'a>(
-    image: &'a [u8],
+// The walk of page `q` with `left` levels to spend, as the root or not, with its range and the pages marked before: the number of leaf entries, or the first breach.
+#[cycle(walk)]
+fn walk(
+    image: &[u8],
+    p: usize,
+    n: usize,
+    left: usize,
+    top: bool,
+    q: usize,
+    low: &[u8],
+    high: Option<&[u8]>,
+    marks: &mut [u64; 512],
+) -> Result<usize, Fault>
+    requires { SoundSizes image.now p n }
+    ensures says { (vs : List ℕ) → Marks marks.old vs
+        → Says result marks.new (walk_of n (pages_of image.now p n) (view_of image.now p n) left top q low.now (upper_of high.entry) vs) }
+    ensures counted { (m : ℕ) → result ≡ Ok m → m + 2147483648 * count_marked marks.old ≤ 2147483648 * count_marked marks.new }
+{
+    match meet(image, p, n, left, top, q, low, high, marks)? {
+        Page::Leaf(entries) => Ok(entries),
+        Page::Branch(c) => walk_all(image, p, n, left - 1, q, c, high, marks),
+    }
+}
+
+// The walk of the `c` children of branch `q`, with `left` levels to spend, its upper end and the pages marked before: the number of leaf entries, or the first breach.
+#[cycle(walk)]
+fn walk_all(
+    image: &[u8],
     p: usize,
     n: usize,
     left: usize,
     q: usize,
     c: usize,
-    high: &'a [u8],
-    bounded: bool,
-    marks: [u64; 512],
-) -> Walked
+    high: Option<&[u8]>,
+    marks: &mut [u64; 512],
+) -> Result<usize, Fault>
     requires { SoundSizes image.now p n × (q < n) × Branching image.now p n q c }
-    ensures says { (vs : List ℕ) → Marks marks vs → Says result (children_of image.now p n left q c (upper_of bounded high.now) vs) }
-    ensures counted { (m : ℕ) → result.outcome ≡ Outcome.Passed m → m + 2147483648 * count_marked marks ≤ 2147483648 * count_marked result.marks }
+    ensures says { (vs : List ℕ) → Marks marks.old vs
+        → Says result marks.new (children_of image.now p n left q c (upper_of high.entry) vs) }
+    ensures counted { (m : ℕ) → result ≡ Ok m → m + 2147483648 * count_marked marks.old ≤ 2147483648 * count_marked marks.new }
 {
     let b = block(image, p, n, q);
-    let mut seen = marks;
     let mut entries = 0;
-    let mut i = 0;
-    while i < c {
-        let k = child(b, i);
-        let end = upper(b, i, c, high);
-        let ends = has_upper(i, c, bounded);
+    for i in 0..c {
         let low = key(b, false, i);
-        match meet(image, p, n, left, false, k, low, end, ends, &mut seen) {
-            Page::Breach(number, page, j, common) => {
-                return broken(seen, number, page, j, common);
-            }
-            Page::Leaf(m) => {
-                entries += m;
-                i += 1;
-            }
-            Page::Branch(m) => {
-                let w = walk(image, p, n, left - 1, k, m, end, ends, seen);
-                let next = w.marks;
-                let outcome = w.outcome;
-                match outcome {
-                    Outcome::Broken(f) => {
-                        return broken(next, f.number, f.page, f.element, f.common);
-                    }
-                    Outcome::Passed(all) => {
-                        entries += all;
-                        seen = next;
-                        i += 1;
-                    }
-                }
-            }
-        }
+        let end = upper(b, i, c, high);
+        entries += walk(image, p, n, left, false, child(b, i), low, end, marks)?;
     }
-    passed(seen, entries)
-}
-
-// The judge's answer where the root is a branch with `c` children, after the pages marked by now.
-fn judge_branch(
-    image: &[u8],
-    p: usize,
-    n: usize,
-    root: usize,
-    c: usize,
-    f: usize,
-    marks: [u64; 512],
-) -> Judged
-    requires { SoundSizes image.now p n × (root < n) × Branching image.now p n root c }
-    ensures { (vs : List ℕ) → Marks marks vs → result ≡ after_tree image.now p n f (children_of image.now p n 15 root c none vs) }
-{
-    let none = &image[0..0];
-    let w = walk(image, p, n, LEVELS - 1, root, c, none, false, marks);
-    let seen = w.marks;
-    let outcome = w.outcome;
-    match outcome {
-        Outcome::Broken(fault) => Judged::Refused(fault),
-        Outcome::Passed(entries) => after_tree(image, p, n, f, entries, seen),
-    }
+    Ok(entries)
 }
 
 // The judge of an image: the counts of leaf entries and pages reached, or the first breach in the order of the rules.
-pub fn judge(image: &[u8], p: usize, n: usize, root: usize, f: usize) -> Judged
+pub fn judge(image: &[u8], p: usize, n: usize, root: usize, f: usize) -> Result<Counts, Fault>
     ensures { result ≡ judge_of image.now p n root f }
 {
     if geometry_bad(image, p, n) {
-        return refused(1, 0, 0, 0);
+        return Err(page_fault(Refusal::Geometry, 0));
     }
-    let low = &image[0..0];
     let mut marks = no_marks();
-    match meet(image, p, n, LEVELS, true, root, low, low, false, &mut marks) {
-        Page::Breach(number, page, i, common) => refused(number, page, i, common),
-        Page::Leaf(entries) => after_tree(image, p, n, f, entries, marks),
-        Page::Branch(c) => judge_branch(image, p, n, root, c, f, marks),
-    }
+    let entries = walk(image, p, n, LEVELS, true, root, &[], None, &mut marks)?;
+    after_tree(image, p, n, f, entries, marks)
 }

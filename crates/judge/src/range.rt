@@ -7,113 +7,108 @@ ghost use Rattle.view.specs.Geometry.{SoundSizes};
 ghost use Rattle.view.specs.View.{view_of};
 ghost use Rattle.judge.specs.Walk.{upper_of, against_upper, ranged_of, key_out, common_out, judge_page_of};
 
-use field::order::{compare, is_below, is_lower};
-use page::Verdict;
+use super::fault::on_page;
+use field::Refusal;
+use field::order::{compare, is_below};
+use page::Breach;
 use page::layout::{count, is_leaf, key};
 use page::rules::check;
+use view::Fault;
 use view::image::block;
 
-// The verdict on a page: the number of a branch's children or of a leaf's entries, or a breach with the page and element that it names and the length of a common beginning.
+// A page of the tree: the number of a branch's children or of a leaf's entries.
 #[derive(Clone, Copy)]
 pub enum Page {
     Branch(usize),
     Leaf(usize),
-    Breach(u64, usize, usize, usize),
 }
 
-// How a key stands to its range: in it, or out of it, with the length of the common beginning of it and the end that it crosses.
-#[derive(Clone, Copy)]
-pub enum Ranged {
-    In,
-    Out(usize),
-}
-
-// How a key stands to the upper end of its range, where there is one.
-fn against_upper(k: &[u8], high: &[u8], bounded: bool) -> Ranged
-    ensures { result ≡ against_upper (upper_of bounded high.now) k.now }
+// Where a key is not below the upper end of its range, the length of the common beginning of the two.
+fn against_upper(k: &[u8], high: Option<&[u8]>) -> Option<usize>
+    ensures { result ≡ against_upper (upper_of high.entry) k.now }
 {
-    if !bounded {
-        return Ranged::In;
+    let parting = compare(k, high?);
+    if parting.order.is_lt() {
+        return None;
     }
-    let parting = compare(k, high);
-    let order = parting.order;
-    if is_lower(order) {
-        return Ranged::In;
-    }
-    Ranged::Out(parting.common)
+    Some(parting.common)
 }
 
-// How a key stands to its range: out of it where it is below the lower end, or not below the upper.
-fn against_range(k: &[u8], low: &[u8], high: &[u8], bounded: bool) -> Ranged
-    ensures { result ≡ ranged_of low.now (upper_of bounded high.now) k.now }
+// Where a key is out of its range, below the lower end or not below the upper, the length of the common beginning of it and the end that it crosses.
+fn against_range(k: &[u8], low: &[u8], high: Option<&[u8]>) -> Option<usize>
+    ensures { result ≡ ranged_of low.now (upper_of high.entry) k.now }
 {
     let parting = compare(k, low);
-    let order = parting.order;
-    if is_lower(order) {
-        return Ranged::Out(parting.common);
+    if parting.order.is_lt() {
+        return Some(parting.common);
     }
-    against_upper(k, high, bounded)
+    against_upper(k, high)
 }
 
 // The first key out of range, looked for from the front.
-fn first_out(b: &[u8], leaf: bool, n: usize, low: &[u8], high: &[u8], bounded: bool) -> Verdict
+fn first_out(b: &[u8], leaf: bool, n: usize, low: &[u8], high: Option<&[u8]>) -> Result<(), Breach>
     requires { (n ≡ count_of b.now) × SoundBlock leaf true b.now }
-    ensures { result ≡ first_bad (key_out leaf b.now low.now (upper_of bounded high.now))
-        (common_out leaf b.now low.now (upper_of bounded high.now)) 7 n 0 }
+    ensures { result ≡ first_bad (key_out leaf b.now low.now (upper_of high.entry))
+        (common_out leaf b.now low.now (upper_of high.entry)) Refusal.KeyRange n 0 }
 {
-    let mut i = 0;
-    while i < n {
-        match against_range(key(b, leaf, i), low, high, bounded) {
-            Ranged::Out(common) => {
-                return Verdict::Breach(7, i, common);
-            }
-            Ranged::In => {
-                i += 1;
-            }
+    for i in 0..n {
+        if let Some(common) = against_range(key(b, leaf, i), low, high) {
+            return Err(Breach {
+                refusal: Refusal::KeyRange,
+                element: i,
+                common,
+            });
         }
     }
-    Verdict::Sound
+    Ok(())
 }
 
 // Whether a key is below the upper end of its range, where there is one.
-fn is_under(k: &[u8], high: &[u8], bounded: bool) -> bool
-    ensures { result ≡ under k.now (upper_of bounded high.now) }
+fn is_under(k: &[u8], high: Option<&[u8]>) -> bool
+    ensures { result ≡ under k.now (upper_of high.entry) }
 {
-    if !bounded {
-        return true;
-    }
-    is_below(k, high)
+    high.is_none_or(|high| is_below(k, high))
 }
 
 // Rule 8: the keys rise, so where the first is not below the lower end and the last is below the upper, all are in range.
-fn check_range(b: &[u8], leaf: bool, n: usize, low: &[u8], high: &[u8], bounded: bool) -> Verdict
+fn check_range(
+    b: &[u8],
+    leaf: bool,
+    n: usize,
+    low: &[u8],
+    high: Option<&[u8]>,
+) -> Result<(), Breach>
     requires { (n ≡ count_of b.now) × SoundBlock leaf true b.now }
-    ensures { result ≡ first_bad (key_out leaf b.now low.now (upper_of bounded high.now))
-        (common_out leaf b.now low.now (upper_of bounded high.now)) 7 n 0 }
+    ensures { result ≡ first_bad (key_out leaf b.now low.now (upper_of high.entry))
+        (common_out leaf b.now low.now (upper_of high.entry)) Refusal.KeyRange n 0 }
 {
     if n == 0 {
-        return Verdict::Sound;
+        return Ok(());
     }
     if is_below(key(b, leaf, 0), low) {
-        return first_out(b, leaf, n, low, high, bounded);
+        return first_out(b, leaf, n, low, high);
     }
-    if is_under(key(b, leaf, n - 1), high, bounded) {
-        return Verdict::Sound;
+    if is_under(key(b, leaf, n - 1), high) {
+        return Ok(());
     }
-    first_out(b, leaf, n, low, high, bounded)
+    first_out(b, leaf, n, low, high)
 }
 
 // Rules 5 to 8 of a block.
-fn judge_block(b: &[u8], leaf: bool, empty: bool, low: &[u8], high: &[u8], bounded: bool) -> Verdict
+fn judge_block(
+    b: &[u8],
+    leaf: bool,
+    empty: bool,
+    low: &[u8],
+    high: Option<&[u8]>,
+) -> Result<(), Breach>
     requires { 32 ≤ length b.now }
     ensures { result ≡ and_then (check_of leaf empty b.now)
-        (first_bad (key_out leaf b.now low.now (upper_of bounded high.now))
-        (common_out leaf b.now low.now (upper_of bounded high.now)) 7 (count_of b.now) 0) }
+        (first_bad (key_out leaf b.now low.now (upper_of high.entry))
+        (common_out leaf b.now low.now (upper_of high.entry)) Refusal.KeyRange (count_of b.now) 0) }
 {
-    match check(b, leaf, empty) {
-        Verdict::Breach(number, i, common) => Verdict::Breach(number, i, common),
-        Verdict::Sound => check_range(b, leaf, count(b), low, high, bounded),
-    }
+    check(b, leaf, empty)?;
+    check_range(b, leaf, count(b), low, high)
 }
 
 // The verdict on page `q`, whose header is sound, as the root or not, with its range: rules 5 to 8.
@@ -124,22 +119,16 @@ pub fn judge_page(
     q: usize,
     top: bool,
     low: &[u8],
-    high: &[u8],
-    bounded: bool,
-) -> Page
+    high: Option<&[u8]>,
+) -> Result<Page, Fault>
     requires { SoundSizes image.now p n × (q < n) × (header_bad n q (drop (q * p) image.now) ≡ false) }
-    ensures { result ≡ judge_page_of (view_of image.now p n q top) q low.now (upper_of bounded high.now) }
+    ensures { result ≡ judge_page_of (view_of image.now p n q top) q low.now (upper_of high.entry) }
 {
     let b = block(image, p, n, q);
     if is_leaf(b) {
-        match judge_block(b, true, top, low, high, bounded) {
-            Verdict::Breach(number, i, common) => Page::Breach(number, q, i, common),
-            Verdict::Sound => Page::Leaf(count(b)),
-        }
-    } else {
-        match judge_block(b, false, false, low, high, bounded) {
-            Verdict::Breach(number, i, common) => Page::Breach(number, q, i, common),
-            Verdict::Sound => Page::Branch(count(b)),
-        }
+        on_page(q, judge_block(b, true, top, low, high))?;
+        return Ok(Page::Leaf(count(b)));
     }
+    on_page(q, judge_block(b, false, false, low, high))?;
+    Ok(Page::Branch(count(b)))
 }

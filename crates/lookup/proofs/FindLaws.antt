@@ -25,6 +25,7 @@ use Rattle.lookup.specs.Step.{seek_step, step_of}
 use Rattle.view.specs.View.{row, child_item, value_item}
 use Rattle.view.proofs.ViewLaws.{row_at, at_row, rising_row}
 use Rattle.lookup.proofs.StepLaws.{child_mid, child_last}
+use Rattle.std.specs.Prelude.{Ok}
 
 -- a sound block's keys rise, as a row
 pub rising_items : {A : Type 0} (is_leaf empty_ok : Bool) (b : List ℕ) (f : ℕ → Item A) → ((i : ℕ) → (f i).key ≡ key_of is_leaf b i)
@@ -51,7 +52,7 @@ module _ (b key : List ℕ) (sound : SoundBlock false false b) where
       some_element = positive (count_of b) sound.filled
         where
           positive : (n : ℕ) → (n ≡ 0 → false ≡ true) → 0 < n
-          positive Prim.Native.Nat.zero f = absurd (let e = f refl in let z : ◌≡◌ {A = ℕ} 0 1 = cc in omega arith)
+          positive Prim.Native.Nat.zero f = absurd (let e = f refl in cc)
           positive (Prim.Native.Nat.suc n) f = omega arith
 
       go : Scanned false b key (place_of false b key) → ((place_of false b key).at < count_of b) × (child_for (row (child_item b) (count_of b) 0) key ≡ page_of b (place_of false b key).at)
@@ -76,12 +77,12 @@ module _ (empty_ok : Bool) (b key : List ℕ) (start : ℕ) (sound : SoundBlock 
   items = row (value_item start b) (count_of b) 0
 
   pub leaf_found : (place_of true b key).found ≡ true
-      → ((place_of true b key).at < count_of b) × (step_of (leaf items) key ≡ Found (value_item start b (place_of true b key).at).value)
+      → ((place_of true b key).at < count_of b) × (step_of (leaf items) key ≡ Ok (Found (value_item start b (place_of true b key).at).value))
   unfolding step_of
   leaf_found f = go (scanned true b key)
     where
       go : Scanned true b key (place_of true b key)
-          → ((place_of true b key).at < count_of b) × (step_of (leaf items) key ≡ Found (value_item start b (place_of true b key).at).value)
+          → ((place_of true b key).at < count_of b) × (step_of (leaf items) key ≡ Ok (Found (value_item start b (place_of true b key).at).value))
       go (here m l h q p) =
           let e : (place_of true b key).at ≡ m = ap (λ (x : Place). x.at) p in
           let k : key_of true b m ≡ key = (found_at true b key m p).1 in
@@ -89,15 +90,15 @@ module _ (empty_ok : Bool) (b key : List ℕ) (start : ℕ) (sound : SoundBlock 
           (rw (zero-add m) at (row_at (value_item start b) (count_of b) 0 m l)) k in
           (rw e l, rw e (ap seek_step a))
       go (nowhere m l h g p) =
-          absurd (let n : (place_of true b key).found ≡ false = ap (λ (x : Place). x.found) p in let z : ◌≡◌ {A = ℕ} 0 1 = cc in omega arith)
+          absurd (let n : (place_of true b key).found ≡ false = ap (λ (x : Place). x.found) p in cc)
 
-  pub leaf_missing : (place_of true b key).found ≡ false → step_of (leaf items) key ≡ Absent
+  pub leaf_missing : (place_of true b key).found ≡ false → step_of (leaf items) key ≡ Ok Absent
   unfolding step_of
   leaf_missing f = go (scanned true b key)
     where
-      go : Scanned true b key (place_of true b key) → step_of (leaf items) key ≡ Absent
+      go : Scanned true b key (place_of true b key) → step_of (leaf items) key ≡ Ok Absent
       go (here m l h q p) =
-          absurd (let n : (place_of true b key).found ≡ true = ap (λ (x : Place). x.found) p in let z : ◌≡◌ {A = ℕ} 0 1 = cc in omega arith)
+          absurd (let n : (place_of true b key).found ≡ true = ap (λ (x : Place). x.found) p in cc)
       go (nowhere m l h g p) =
           let a = seek_miss items key 0 0 (λ i e x k.
           let y = at_row (value_item start b) (count_of b) 0 i e x in

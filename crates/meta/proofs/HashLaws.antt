@@ -1,7 +1,9 @@
--- Laws of the hash: over joined bytes, a byte of a slice, a byte of a number (over the width), and that it fits in 64 bits.
+-- Laws of the hash: over joined bytes, the bytes of a number (over the width), and that it fits in 64 bits.
 -- Assumes nothing.
-use Rattle.std.proofs.Common.{◌≡◌, ℕ, zero, suc, ◌+◌, ◌-◌, ◌*◌, ◌/◌, ◌%◌, ◌^◌, ◌<◌, List, [], ◌∷◌, ◌++◌, length, get_or, drop, sym, refl, ap, ◌∙◌, mod-lt, div-one, add-one, arith, drop-cons, pow_pos, shr-shr}
+use Rattle.std.proofs.Common.{◌≡◌, ℕ, zero, suc, ◌*◌, ◌/◌, ◌^◌, ◌<◌, List, [], ◌∷◌, ◌++◌, sym, refl, mod-lt, pow_pos}
+use native.Mathlib.Nat.{mul_comm, div-div-eq-div-mul, pow-suc}
 use lib.Bits.{bit_xor}
+use Rattle.std.specs.Int.{byte_at, bytes_high_first}
 use Rattle.field.specs.Field.{big_bytes_of}
 use Rattle.meta.specs.Fnv.{prime, hash_step, hash_from}
 
@@ -11,26 +13,21 @@ unfolding hash_from
 hash_append h [] b = refl
 hash_append h (x ∷ a) b = hash_append (hash_step h x) a b
 
--- ---- a turn of the loop over a slice: the byte at i, and what is left
-pub slice_turn : (s : List ℕ) (h i : ℕ) → i < length s → hash_from (hash_step h (get_or s i 0)) (drop (i + 1) s) ≡ hash_from h (drop i s)
-unfolding hash_from
-slice_turn s h i l = rw (add-one, drop-cons s i 0 l)
-
 -- ---- a number's bytes, the highest first: the first of them, over the width
-big_cons : (w v : ℕ) → big_bytes_of (suc w) v ≡ v / 2 ^ (8 * w) % 256 ∷ big_bytes_of w v
-unfolding big_bytes_of
-big_cons zero v = rw div-one
-big_cons (suc w) v =
-    let e : 8 + 8 * w ≡ 8 * suc w = omega arith in
-    let d : v / 256 / 2 ^ (8 * w) ≡ v / 2 ^ (8 * suc w) = shr-shr v 8 (8 * w) ∙ ap (λ (k : ℕ). v / 2 ^ k) e in
-    rw (big_cons w (v / 256), d)
+byte_above : (w v : ℕ) → byte_at w (v / 256) ≡ byte_at (suc w) v
+byte_above zero v = refl
+byte_above (suc w) v = rw (div-div-eq-div-mul v 256 (256 ^ suc w), mul_comm 256 (256 ^ suc w), pow-suc 256 (suc w))
 
--- a turn of the loop over a number
-pub number_turn : (w v h : ℕ) → 0 < w → hash_from (hash_step h (v / 2 ^ (8 * (w - 1)) % 256)) (big_bytes_of (w - 1) v) ≡ hash_from h (big_bytes_of w v)
-unfolding hash_from
-number_turn w v h l =
-    let e : w ≡ suc (w - 1) = omega arith in
-    sym (ap (λ (k : ℕ). hash_from h (big_bytes_of k v)) e ∙ ap (hash_from h) (big_cons (w - 1) v))
+big_cons : (w v : ℕ) → big_bytes_of (suc w) v ≡ byte_at w v ∷ big_bytes_of w v
+unfolding big_bytes_of
+big_cons zero v = refl
+big_cons (suc w) v = rw (big_cons w (v / 256), byte_above w v)
+
+-- std has the same bytes
+pub high_first : (w v : ℕ) → bytes_high_first w v ≡ big_bytes_of w v
+unfolding big_bytes_of
+high_first zero v = refl
+high_first (suc w) v = rw (high_first w v, sym (big_cons w v))
 
 -- ---- the hash fits
 pub hash_fits : (h : ℕ) (bytes : List ℕ) → h < 2 ^ 64 → hash_from h bytes < 2 ^ 64

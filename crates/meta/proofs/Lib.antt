@@ -1,5 +1,4 @@
 -- The laws of the definitions, and what reading finds of what was written.
-mod Product
 mod HashLaws
 mod MetaLaws
 pub mod ReadBack

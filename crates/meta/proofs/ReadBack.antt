@@ -1,18 +1,16 @@
 -- What was written is read back, and writing changes bytes 32 to 103 only.
 -- Assumes nothing.
-use Rattle.std.proofs.Common.{◌≡◌, ℕ, ◌+◌, ◌-◌, ◌^◌, ◌<◌, ◌≤◌, ◌⊎◌, List, ◌++◌, length, get_or, take, drop, sym, refl, ap, ◌∙◌, subst, inl, inr, ⊎_elim, append_assoc, arith, lit<, length-append, length-take-le, get_or-drop, get_or-take, get_or-append-add}
+use Rattle.std.proofs.Common.{◌≡◌, ℕ, ◌+◌, ◌-◌, ◌^◌, ◌<◌, ◌≤◌, ◌⊎◌, List, ◌++◌, length, get_or, take, drop, Ok, sym, refl, ap, ◌∙◌, subst, ⊎_elim, append_assoc, arith, lit<, length-append, length-take-le, get_or-drop, get_or-take, get_or-append-add}
 use lib.ListN.{get_or-append}
 use Rattle.field.specs.Field.{field, bytes_of, big_bytes_of}
 use Rattle.field.specs.Run.{put_at}
-use Rattle.field.proofs.BitLaws.{lt_or_le, same_or}
 use Rattle.field.proofs.FieldLaws.{read_at}
 use Rattle.field.proofs.RunLaws.{length-put}
 use Rattle.meta.specs.Fnv.{basis}
 use Rattle.meta.specs.Meta.{meta_at, hash_input, hash_of, with_hash, InRange, read_of, meta_bytes, page_left}
 use Rattle.meta.specs.declared.Meta.{Meta}
-use Rattle.meta.specs.declared.MetaRead.TheVariants.{Read}
 use Rattle.meta.proofs.HashLaws.{hash_fits}
-use Rattle.meta.proofs.MetaLaws.{read_right, write_short, write_type, write_right}
+use Rattle.meta.proofs.MetaLaws.{read_right, write_right, left_or_put}
 
 -- ---- the lengths
 pub length_meta : (m : Meta) → length (meta_bytes m) ≡ 72
@@ -96,30 +94,21 @@ own_hash : (m : Meta) → (with_hash m).hash ≡ hash_of (with_hash m)
 unfolding with_hash hash_input
 own_hash m = refl
 
--- ---- writing leaves the page as it was, or puts the 72 bytes into a page of 104 or more
-left_or_put : (page : List ℕ) (m : Meta)
-    → (page_left page m ≡ page) ⊎ ((32 + length (meta_bytes m) ≤ length page) × (page_left page m ≡ put_at page 32 (meta_bytes m)))
-left_or_put page m =
-    ⊎_elim (λ h. inl (sym (write_short page m h).1))
-    (λ long. ⊎_elim (λ type. inr (omega (arith, length_meta m), sym (write_right page m long type).1))
-    (λ other. inl (sym (write_type page m long other).1)) (same_or (get_or page 8 0) 3))
-    (lt_or_le (length page) 104)
-
 -- ---- the theorems
 
 -- a meta written to a page of type 3 is read back, with the hash of its fields
-pub read_back : (page : List ℕ) (m : Meta) → InRange m → 104 ≤ length page → get_or page 8 0 ≡ 3 → read_of (page_left page m) ≡ Read (with_hash m)
+pub read_back : (page : List ℕ) (m : Meta) → InRange m → 104 ≤ length page → get_or page 8 0 ≡ 3 → read_of (page_left page m) ≡ Ok (with_hash m)
 read_back page m r long type =
     let run = meta_bytes m in
     let fits : 32 + length run ≤ length page = omega (arith, length_meta m) in
     let n = length-put page 32 run fits in
     let t = put_before page run 32 fits 8 (lit< tt) ∙ type in
-    ap read_of (sym (write_right page m long type).1)
-    ∙ sym (read_right (put_at page 32 run) (omega arith) t (with_hash m) (sym (meta_back page m r long)) (own_hash m))
+    ap read_of (write_right page m long type)
+    ∙ read_right (put_at page 32 run) (with_hash m) (omega arith) t (sym (meta_back page m r long)) (own_hash m)
 
 -- the page keeps its length
 pub length_stays : (page : List ℕ) (m : Meta) → length (page_left page m) ≡ length page
-length_stays page m = ⊎_elim (ap length) (λ p. ap length p.1 ∙ length-put page 32 (meta_bytes m) p.0) (left_or_put page m)
+length_stays page m = ⊎_elim (ap length) (λ p. ap length p.1 ∙ length-put page 32 (meta_bytes m) (omega (arith, p.0, length_meta m))) (left_or_put page m)
 
 -- every byte before 32 and from 104 on stays
 pub outside_stays : (page : List ℕ) (m : Meta) (k : ℕ) → (k < 32) ⊎ (104 ≤ k) → get_or (page_left page m) k 0 ≡ get_or page k 0
@@ -131,8 +120,8 @@ outside_stays page m k h = ⊎_elim (ap at) (λ p. ap at p.1 ∙ ⊎_elim (befor
     at : List ℕ → ℕ
     at s = get_or s k 0
 
-    before : 32 + length run ≤ length page → k < 32 → at (put_at page 32 run) ≡ at page
-    before fits l = put_before page run 32 fits k l
+    before : 104 ≤ length page → k < 32 → at (put_at page 32 run) ≡ at page
+    before long l = put_before page run 32 (omega (arith, length_meta m)) k l
 
-    after : 32 + length run ≤ length page → 104 ≤ k → at (put_at page 32 run) ≡ at page
-    after fits l = put_after page run 32 fits k (omega (arith, length_meta m))
+    after : 104 ≤ length page → 104 ≤ k → at (put_at page 32 run) ≡ at page
+    after long l = put_after page run 32 (omega (arith, length_meta m)) k (omega (arith, length_meta m))

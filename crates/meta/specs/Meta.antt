@@ -1,14 +1,13 @@
 -- The meta of a page (01, Meta): 72 bytes from page offset 32 on, each number with its lowest byte first, and a hash over the fields before it.
 -- Assumes nothing.
-use Rattle.std.specs.Prelude.{ℕ, ◌+◌, ◌^◌, ◌<◌, cond, not, List, [], ◌∷◌, ◌++◌, length, replicate, ◌==◌, nat_lt, slice_index}
+use Rattle.std.specs.Prelude.{ℕ, ◌+◌, ◌^◌, ◌<◌, cond, not, List, [], ◌∷◌, ◌++◌, length, replicate, ◌==◌, nat_lt, slice_index, Result, Ok, Err}
 use Rattle.field.specs.Field.{field, bytes_of, big_bytes_of}
+use Rattle.field.specs.Refusal.{number_of, on_ok}
+use Rattle.field.specs.declared.refusal.Refusal.{Refusal}
+use Rattle.field.specs.declared.refusal.Refusal.TheVariants.{Geometry, Header, Hash}
 use Rattle.field.specs.Run.{put_at}
 use Rattle.meta.specs.Fnv.{fnv1a_of}
 use Rattle.meta.specs.declared.Meta.{Meta}
-use Rattle.meta.specs.declared.MetaRead.{MetaRead}
-use Rattle.meta.specs.declared.MetaRead.TheVariants.{Read, Refused as NotRead}
-use Rattle.meta.specs.declared.MetaWritten.{MetaWritten}
-use Rattle.meta.specs.declared.MetaWritten.TheVariants.{Written, Refused as NotWritten}
 
 -- the fields that stand at page offset 32
 unfoldable pub meta_at : List ℕ → Meta
@@ -43,12 +42,12 @@ abbrev pub hash_of : Meta → ℕ
 hash_of m = fnv1a_of (hash_input m)
 
 -- reading: 1 for fewer than 104 bytes lent, 3 for a type that is not 3, 13 for a wrong hash; else the fields
-unfoldable pub read_of : List ℕ → MetaRead
+unfoldable pub read_of : List ℕ → Result Meta Refusal
 read_of page =
-    cond (nat_lt (length page) 104) (NotRead 1)
-    (cond (not (slice_index page 8 == 3)) (NotRead 3)
-    (cond (not ((meta_at page).hash == hash_of (meta_at page))) (NotRead 13)
-    (Read (meta_at page))))
+    cond (nat_lt (length page) 104) (Err Geometry)
+    (cond (not (slice_index page 8 == 3)) (Err Header)
+    (cond (not ((meta_at page).hash == hash_of (meta_at page))) (Err Hash)
+    (Ok (meta_at page))))
 
 -- what is written from offset 32 on: the fields, the padding zero, and the hash of the fields: 72 bytes
 unfoldable pub meta_bytes : Meta → List ℕ
@@ -66,20 +65,15 @@ meta_bytes m =
     ++ bytes_of 8 (hash_of m)
 
 -- writing: 1 and 3 as in reading; else the hash that is written
-unfoldable pub write_of : List ℕ → Meta → MetaWritten
+unfoldable pub write_of : List ℕ → Meta → Result ℕ Refusal
 write_of page m =
-    cond (nat_lt (length page) 104) (NotWritten 1)
-    (cond (not (slice_index page 8 == 3)) (NotWritten 3)
-    (Written (hash_of m)))
+    cond (nat_lt (length page) 104) (Err Geometry)
+    (cond (not (slice_index page 8 == 3)) (Err Header)
+    (Ok (hash_of m)))
 
--- the page after an answer: written, the 72 bytes stand at offset 32; refused, it is as it was
-abbrev pub left_by : MetaWritten → List ℕ → Meta → List ℕ
-left_by (Written hash) page m = put_at page 32 (meta_bytes m)
-left_by (NotWritten number) page m = page
-
--- the page after writing
+-- the page after writing: the 72 bytes stand at offset 32; refused, it is as it was
 unfoldable pub page_left : List ℕ → Meta → List ℕ
-page_left page m = left_by (write_of page m) page m
+page_left page m = on_ok (write_of page m) (put_at page 32 (meta_bytes m)) page
 
 -- ---- what the theorems on reading back speak of
 
@@ -126,8 +120,8 @@ pub record InRange (m : Meta) : Type 0 where
   pub tx_id : m.tx_id < 2 ^ 64
 
 -- 01's number of an answer, and its values; a refusal has none. Reading: the ten fields in their order
-abbrev pub meta_read_fields : MetaRead → List ℕ
-meta_read_fields (Read m) =
+abbrev pub meta_read_fields : Result Meta Refusal → List ℕ
+meta_read_fields (Ok m) =
     0
     ∷ m.meta_page
     ∷ m.magic
@@ -140,9 +134,9 @@ meta_read_fields (Read m) =
     ∷ m.tx_id
     ∷ m.hash
     ∷ []
-meta_read_fields (NotRead number) = number ∷ replicate 10 0
+meta_read_fields (Err refusal) = number_of refusal ∷ replicate 10 0
 
 -- the number, and the hash
-abbrev pub meta_written_fields : MetaWritten → List ℕ
-meta_written_fields (Written hash) = 0 ∷ hash ∷ []
-meta_written_fields (NotWritten number) = number ∷ 0 ∷ []
+abbrev pub meta_written_fields : Result ℕ Refusal → List ℕ
+meta_written_fields (Ok hash) = 0 ∷ hash ∷ []
+meta_written_fields (Err refusal) = number_of refusal ∷ 0 ∷ []

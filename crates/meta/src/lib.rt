@@ -8,6 +8,7 @@ ghost use Rattle.std.specs.Prelude.{◌≡◌, ◌≤◌, length};
 ghost use Rattle.field.specs.Run.{put_at};
 ghost use Rattle.meta.specs.Meta.{meta_at, hash_of, read_of, meta_bytes, write_of, page_left};
 
+use field::Refusal;
 use field::number::{put_u32, put_u64, u32_at, u64_at};
 use fnv::{hash_u32, hash_u64};
 
@@ -55,21 +56,8 @@ pub struct Meta {
     pub hash: u64,
 }
 
-// The meta with its hash, or the number that refuses the page.
-#[derive(Clone, Copy)]
-pub enum MetaRead {
-    Read(Meta),
-    Refused(u64),
-}
-
-// The hash that was written, or the number that refuses the page.
-#[derive(Clone, Copy)]
-pub enum MetaWritten {
-    Written(u64),
-    Refused(u64),
-}
-
 // The hash of the nine fields before it, each with its highest byte first.
+#[tactic(auto, unfolding(crate::specs::Meta::hash_input), using(crate::proofs::HashLaws::hash_append))]
 pub fn hash_of(m: Meta) -> u64
     ensures { result ≡ hash_of m }
 {
@@ -85,6 +73,7 @@ pub fn hash_of(m: Meta) -> u64
 }
 
 // The fields that stand at offset 32.
+#[tactic(auto, unfolding(crate::specs::Meta::meta_at))]
 fn meta_at(page: &[u8]) -> Meta
     requires { 104 ≤ length page.now }
     ensures { result ≡ meta_at page.now }
@@ -103,22 +92,22 @@ fn meta_at(page: &[u8]) -> Meta
     }
 }
 
-// The meta of the page: 1 for fewer than 104 bytes, 3 for another type, 13 for another hash.
-pub fn read_meta(page: &[u8]) -> MetaRead
+// The meta of the page: `Geometry` for fewer than 104 bytes, `Header` for another type, `Hash` for another hash.
+#[tactic(auto, unfolding(crate::specs::Meta::read_of))]
+pub fn read_meta(page: &[u8]) -> Result<Meta, Refusal>
     ensures { result ≡ read_of page.now }
 {
     if page.len() < META_END {
-        return MetaRead::Refused(1);
+        return Err(Refusal::Geometry);
     }
     if page[TYPE] != TYPE_META {
-        return MetaRead::Refused(3);
+        return Err(Refusal::Header);
     }
     let m = meta_at(page);
-    let hash = hash_of(m);
-    if m.hash != hash {
-        return MetaRead::Refused(13);
+    if m.hash != hash_of(m) {
+        return Err(Refusal::Hash);
     }
-    MetaRead::Read(m)
+    Ok(m)
 }
 
 // Puts the fields, zeros for the padding and the hash from offset 32 on. The hash is returned.
@@ -141,15 +130,16 @@ fn put_meta(page: &mut [u8], m: Meta) -> u64
     hash
 }
 
-// Writes the meta with the hash of its fields: 1 for fewer than 104 bytes, 3 for another type.
-pub fn write_meta(page: &mut [u8], m: Meta) -> MetaWritten
+// Writes the meta with the hash of its fields, which is returned: `Geometry` for fewer than 104 bytes, `Header` for another type.
+#[tactic(auto, unfolding(crate::specs::Meta::write_of, crate::specs::Meta::page_left))]
+pub fn write_meta(page: &mut [u8], m: Meta) -> Result<u64, Refusal>
     ensures { (result ≡ write_of page.old m) × (page.new ≡ page_left page.old m) }
 {
     if page.len() < META_END {
-        return MetaWritten::Refused(1);
+        return Err(Refusal::Geometry);
     }
     if page[TYPE] != TYPE_META {
-        return MetaWritten::Refused(3);
+        return Err(Refusal::Header);
     }
-    MetaWritten::Written(put_meta(page, m))
+    Ok(put_meta(page, m))
 }

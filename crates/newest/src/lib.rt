@@ -6,8 +6,9 @@ ghost use Rattle.std.specs.Prelude.{◌≡◌, drop};
 ghost use Rattle.meta.specs.Meta.{read_of};
 ghost use Rattle.newest.specs.Newest.{counts, newer as newer_of, newest_at, own_size, names_itself, lowest_size, size_found, no_size, newest_of};
 
+use field::Refusal;
 use field::sizes::size_allowed;
-use meta::{Meta, MetaRead, read_meta};
+use meta::{Meta, read_meta};
 
 // The page sizes allowed: the lowest, the step from one to the next, and how many there are.
 const LEAST_SIZE: usize = 1024;
@@ -16,145 +17,114 @@ const SIZE_STEP: usize = 8;
 
 const SIZES: usize = 8065;
 
-// The page that the newest meta was taken from, 0 or 1, and the meta; or the number that refuses the image.
+// The newest meta, and the page that it was taken from, 0 or 1.
 #[derive(Clone, Copy)]
-pub enum Newest {
-    Taken(usize, Meta),
-    Refused(u64),
+pub struct Newest {
+    pub page: usize,
+    pub meta: Meta,
 }
 
 // The meta at byte `at` of the image.
-fn read_at(image: &[u8], at: usize) -> MetaRead
+#[tactic(auto, unfolding(meta::specs::Meta::read_of))]
+fn read_at(image: &[u8], at: usize) -> Result<Meta, Refusal>
     ensures { result ≡ read_of (drop at image.now) }
 {
-    if image.len() < at {
-        return MetaRead::Refused(1);
-    }
-    read_meta(&image[at..])
+    let page = image.get(at..).ok_or(Refusal::Geometry)?;
+    read_meta(page)
 }
 
-// The meta at byte `at`, if it counts at the page size `p`: 11 where it names another.
-fn counted(image: &[u8], at: usize, p: usize) -> MetaRead
+// The meta at byte `at`, if it counts at the page size `p`: `Argument` where it names another.
+fn counted(image: &[u8], at: usize, p: usize) -> Result<Meta, Refusal>
     ensures { result ≡ counts p (read_of (drop at image.now)) }
 {
-    match read_at(image, at) {
-        MetaRead::Read(m) => {
-            if m.pagesize == p as u64 {
-                return MetaRead::Read(m);
-            }
-            MetaRead::Refused(11)
-        }
-        MetaRead::Refused(number) => MetaRead::Refused(number),
+    let meta = read_at(image, at)?;
+    if meta.pagesize != p as u64 {
+        return Err(Refusal::Argument);
     }
+    Ok(meta)
 }
 
-// The newer of two metas that count, the second at a tie; the one that counts; or the first one's number.
-fn newer(first: MetaRead, second: MetaRead) -> Newest
+// The newer of two metas that count, the second at a tie; the one that counts; or the first one's refusal.
+fn newer(first: Result<Meta, Refusal>, second: Result<Meta, Refusal>) -> Result<Newest, Refusal>
     ensures { result ≡ newer_of first second }
 {
-    match first {
-        MetaRead::Read(a) => match second {
-            MetaRead::Read(b) => {
-                if a.tx_id > b.tx_id {
-                    return Newest::Taken(0, a);
-                }
-                Newest::Taken(1, b)
+    match (first, second) {
+        (Ok(a), Ok(b)) => {
+            if a.tx_id > b.tx_id {
+                return Ok(Newest { page: 0, meta: a });
             }
-            MetaRead::Refused(_) => Newest::Taken(0, a),
-        },
-        MetaRead::Refused(number) => match second {
-            MetaRead::Read(b) => Newest::Taken(1, b),
-            MetaRead::Refused(_) => Newest::Refused(number),
-        },
+            Ok(Newest { page: 1, meta: b })
+        }
+        (Ok(a), Err(_)) => Ok(Newest { page: 0, meta: a }),
+        (Err(_), Ok(b)) => Ok(Newest { page: 1, meta: b }),
+        (Err(refusal), Err(_)) => Err(refusal),
     }
 }
 
-// The newest meta at the page size `p`: 1 for an image shorter than two pages.
-fn newest_at(image: &[u8], p: usize) -> Newest
+// The newest meta at the page size `p`: `Geometry` for an image shorter than two pages.
+#[tactic(auto, unfolding(crate::specs::Newest::newest_at))]
+fn newest_at(image: &[u8], p: usize) -> Result<Newest, Refusal>
     ensures { result ≡ newest_at image.now p }
 {
     if image.len() / 2 < p {
-        return Newest::Refused(1);
+        return Err(Refusal::Geometry);
     }
     newer(counted(image, 0, p), counted(image, p, p))
 }
 
-// The page size that a meta names, if that is allowed, and else 0.
-fn own_size(read: MetaRead) -> usize
+// The page size that a meta names, if that is allowed.
+fn own_size(read: Result<Meta, Refusal>) -> Option<usize>
     ensures { result ≡ own_size read }
 {
-    match read {
-        MetaRead::Read(m) => {
-            let size = m.pagesize as usize;
-            if size_allowed(size) {
-                return size;
-            }
-            0
-        }
-        MetaRead::Refused(_) => 0,
-    }
+    let size = read.ok()?.pagesize as usize;
+    size_allowed(size).then_some(size)
 }
 
 // Whether the meta at byte `p` names the page size `p`.
+#[tactic(auto, unfolding(crate::specs::Newest::names_itself))]
 fn names_itself(image: &[u8], p: usize) -> bool
     ensures { result ≡ names_itself image.now p }
 {
-    match counted(image, p, p) {
-        MetaRead::Read(_) => true,
-        MetaRead::Refused(_) => false,
-    }
+    counted(image, p, p).is_ok()
 }
 
-// The lowest allowed page size that the meta at its byte names, or 0.
-fn lowest_size(image: &[u8]) -> usize
+// The lowest allowed page size that the meta at its byte names.
+fn lowest_size(image: &[u8]) -> Option<usize>
     ensures { result ≡ lowest_size image.now 8065 1024 }
 {
-    let mut p = LEAST_SIZE;
-    let mut left = SIZES;
-    while 0 < left {
-        if names_itself(image, p) {
-            return p;
-        }
-        p += SIZE_STEP;
-        left -= 1;
-    }
-    0
+    (0..SIZES)
+        .map(|i| LEAST_SIZE + SIZE_STEP * i)
+        .find(|p| names_itself(image, *p))
 }
 
-// The page size that page 0 names, or else the lowest that the meta at its byte names, or else 0.
-fn size_found(image: &[u8]) -> usize
+// The page size that page 0 names, or else the lowest that the meta at its byte names.
+#[tactic(auto, unfolding(crate::specs::Newest::size_found))]
+fn size_found(image: &[u8]) -> Option<usize>
     ensures { result ≡ size_found image.now }
 {
-    let own = own_size(read_meta(image));
-    if own != 0 {
-        return own;
-    }
-    lowest_size(image)
+    own_size(read_meta(image)).or_else(|| lowest_size(image))
 }
 
-// The number of a page 0 where no page size is found.
-fn no_size(read: MetaRead) -> u64
+// Why a page 0 gives no newest meta where no page size is found.
+fn no_size(read: Result<Meta, Refusal>) -> Refusal
     ensures { result ≡ no_size read }
 {
-    match read {
-        MetaRead::Read(_) => 11,
-        MetaRead::Refused(number) => number,
-    }
+    read.err().unwrap_or(Refusal::Argument)
 }
 
-// The newest meta of the image: a page size of 0 is found, and one that is not allowed is 1.
-pub fn newest_meta(image: &[u8], p: usize) -> Newest
+// The newest meta of the image: a page size of 0 is found, and one that is not allowed is `Geometry`.
+#[tactic(auto, unfolding(crate::specs::Newest::newest_of))]
+pub fn newest_meta(image: &[u8], p: usize) -> Result<Newest, Refusal>
     ensures { result ≡ newest_of image.now p }
 {
     if p == 0 {
-        let found = size_found(image);
-        if found == 0 {
-            return Newest::Refused(no_size(read_meta(image)));
-        }
+        let Some(found) = size_found(image) else {
+            return Err(no_size(read_meta(image)));
+        };
         return newest_at(image, found);
     }
     if !size_allowed(p) {
-        return Newest::Refused(1);
+        return Err(Refusal::Geometry);
     }
     newest_at(image, p)
 }

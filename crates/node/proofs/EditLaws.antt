@@ -8,40 +8,40 @@ use native.Mathlib.Omega.{arith}
 use lib.ListN.{length}
 use borrow.Author.Tests.{lt-ltb, le-ltb}
 use Rattle.field.specs.Sizes.{size_allowed}
-use Rattle.page.specs.declared.rules.Verdict.TheVariants.{Sound, Breach}
 use Rattle.page.specs.Layout.{Entry, count_of, is_leaf, entries_of}
-use Rattle.page.specs.PageRules.{kind_bad, lent_check_of}
+use Rattle.page.specs.PageRules.{breach, kind_bad, lent_check_of}
 use Rattle.page.specs.Search.{leaf_of}
 use Rattle.pack.specs.Plan.{entry_with, remove_at}
-use Rattle.node.specs.declared.edit.Edited.{Edited}
-use Rattle.node.specs.declared.edit.Edited.TheVariants.{Written, Refused}
-use Rattle.node.specs.declared.edit.Deleted.TheVariants as deleted
-use Rattle.node.specs.Edit.{Outcome, refused, node, written, answer, output, Edits, inserted, delete_of, deleted_answer, new_leaf_of, new_branch_of, insert_of, replace_branch, add_branch, insert_branch_of}
+use Rattle.node.specs.Edit.{Outcome, written, answer, output, Edits, inserted, delete_of, deleted_answer, new_leaf_of, new_branch_of, insert_of, branch_outcome, insert_branch_of}
+use Rattle.std.specs.Prelude.{Ok, Err}
+use Rattle.field.specs.declared.refusal.Refusal.TheVariants.{Geometry, Argument}
+use Rattle.std.specs.declared.result.Result.{Result}
+use Rattle.std.specs.declared.option.Option.{Option}
+use Rattle.page.specs.declared.breach.Breach.{Breach}
 
-pub same_node : {es es' : List Entry} {id id' : ℕ} {r : Edited} {exit : List ℕ} (leaf : Bool) (P : ℕ) (out : List ℕ) → es ≡ es' → id ≡ id'
+pub same_node : {es es' : List Entry} {id id' : ℕ} {r : Result ℕ Breach} {exit : List ℕ} (leaf : Bool) (P : ℕ) (out : List ℕ) → es ≡ es' → id ≡ id'
     → Edits leaf id P out (written leaf P out es) r exit → Edits leaf id' P out (written leaf P out es') r exit
 same_node leaf P out e f h = rw (e, f) at h
 
 -- an outcome that is known, a refusal that is
-pub same_edits : {o o' : Outcome} {r : Edited} {exit : List ℕ} (leaf : Bool) (id P : ℕ) (out : List ℕ) → o' ≡ o → Edits leaf id P out o r exit → Edits leaf id P out o' r exit
+pub same_edits : {o o' : Outcome} {r : Result ℕ Breach} {exit : List ℕ} (leaf : Bool) (id P : ℕ) (out : List ℕ) → o' ≡ o → Edits leaf id P out o r exit → Edits leaf id P out o' r exit
 same_edits leaf id P out e h = rw e h
 
-pub refused_edits : {o : Outcome} (leaf : Bool) (id P : ℕ) (out : List ℕ) (number element common : ℕ) → o ≡ refused number element common
-    → Edits leaf id P out o (Refused number element common) out
-refused_edits leaf id P out number element common e = record { answers = rw e; leaves = rw e }
+pub refused_edits : {o : Outcome} (leaf : Bool) (id P : ℕ) (out : List ℕ) (b : Breach) → o ≡ Err b → Edits leaf id P out o (Err b) out
+refused_edits leaf id P out b e = record { answers = rw e; leaves = rw e }
 
 -- ---- delete
 module _ (P : ℕ) (b : List ℕ) (i : ℕ) (out : List ℕ) where
-  pub delete_breach : (number element common : ℕ) → lent_check_of P b ≡ Breach number element common → delete_of P b i out ≡ refused number element common
+  pub delete_breach : (e : Breach) → lent_check_of P b ≡ Err e → delete_of P b i out ≡ Err e
   unfolding delete_of
-  delete_breach number element common e = rw e
+  delete_breach e h = rw h
 
-  module _ (passed : lent_check_of P b ≡ Sound) where
-    pub delete_branch : is_leaf b ≡ false → delete_of P b i out ≡ refused 11 0 0
+  module _ (passed : lent_check_of P b ≡ Ok tt) where
+    pub delete_branch : is_leaf b ≡ false → delete_of P b i out ≡ Err (breach Argument 0 0)
     unfolding delete_of
     delete_branch h = rw (passed, h)
 
-    pub delete_past : is_leaf b ≡ true → count_of b ≤ i → delete_of P b i out ≡ refused 11 0 0
+    pub delete_past : is_leaf b ≡ true → count_of b ≤ i → delete_of P b i out ≡ Err (breach Argument 0 0)
     unfolding delete_of
     delete_past h k = rw (passed, h, le-ltb i (count_of b) k)
 
@@ -50,27 +50,25 @@ module _ (P : ℕ) (b : List ℕ) (i : ℕ) (out : List ℕ) where
     delete_goes h k = rw (passed, h, lt-ltb i (count_of b) k)
 
 -- an edit's answer as that of `delete`
-as_refused : (P : ℕ) (b : List ℕ) (i : ℕ) (o : Outcome) (number element common : ℕ) → Refused number element common ≡ answer true P o
-    → deleted.Refused number element common ≡ deleted_answer P b i o
-as_refused P b i (refused m j k) number element common e = cc
-as_refused P b i (node es) number element common e = absurd (let z : ◌≡◌ {A = ℕ} 0 1 = cc in omega arith)
+as_refused : (P : ℕ) (b : List ℕ) (i : ℕ) (o : Outcome) (e : Breach) → Err e ≡ answer true P o → Err e ≡ deleted_answer P b i o
+as_refused P b i (Ok es) e h = absurd (let z : ◌≡◌ {A = ℕ} 0 1 = cc in omega arith)
+as_refused P b i (Err f) e h = cc
 
-as_removed : (P : ℕ) (b : List ℕ) (i : ℕ) (o : Outcome) (bytes : ℕ) → Written bytes ≡ answer true P o
-    → deleted.Removed bytes (leaf_of b i) ≡ deleted_answer P b i o
-as_removed P b i (refused m j k) bytes e = absurd (let z : ◌≡◌ {A = ℕ} 0 1 = cc in omega arith)
-as_removed P b i (node es) bytes e = cc
+as_removed : (P : ℕ) (b : List ℕ) (i : ℕ) (o : Outcome) (bytes : ℕ) → Ok bytes ≡ answer true P o → Ok (record { bytes = bytes; leaf = leaf_of b i }) ≡ deleted_answer P b i o
+as_removed P b i (Ok es) bytes h = cc
+as_removed P b i (Err f) bytes h = absurd (let z : ◌≡◌ {A = ℕ} 0 1 = cc in omega arith)
 
-module _ {id : ℕ} {out exit : List ℕ} {o o' : Outcome} {r : Edited} (P : ℕ) (b : List ℕ) (i : ℕ) (same : o' ≡ o) (h : Edits true id P out o r exit) where
-  pub deleted_refused : (number element common : ℕ) → r ≡ Refused number element common
-      → (deleted.Refused number element common ≡ deleted_answer P b i o') × (exit ≡ output true id P out o')
-  deleted_refused number element common e = rw same (as_refused P b i o number element common (sym e ∙ h.answers), h.leaves)
+module _ {id : ℕ} {out exit : List ℕ} {o o' : Outcome} {r : Result ℕ Breach} (P : ℕ) (b : List ℕ) (i : ℕ) (same : o' ≡ o) (h : Edits true id P out o r exit) where
+  pub deleted_refused : (e : Breach) → r ≡ Err e → (Err e ≡ deleted_answer P b i o') × (exit ≡ output true id P out o')
+  deleted_refused e q = rw same (as_refused P b i o e (sym q ∙ h.answers), h.leaves)
 
-  pub deleted_done : (bytes : ℕ) → r ≡ Written bytes → (deleted.Removed bytes (leaf_of b i) ≡ deleted_answer P b i o') × (exit ≡ output true id P out o')
-  deleted_done bytes e = rw same (as_removed P b i o bytes (sym e ∙ h.answers), h.leaves)
+  pub deleted_done : (bytes : ℕ) → r ≡ Ok bytes
+      → (Ok (record { bytes = bytes; leaf = leaf_of b i }) ≡ deleted_answer P b i o') × (exit ≡ output true id P out o')
+  deleted_done bytes q = rw same (as_removed P b i o bytes (sym q ∙ h.answers), h.leaves)
 
 -- ---- new nodes
 module _ (P : ℕ) (out : List ℕ) where
-  pub leaf_size : size_allowed P ≡ false → new_leaf_of P out ≡ refused 1 0 0
+  pub leaf_size : size_allowed P ≡ false → new_leaf_of P out ≡ Err (breach Geometry 0 0)
   unfolding new_leaf_of
   leaf_size h = rw h
 
@@ -79,11 +77,11 @@ module _ (P : ℕ) (out : List ℕ) where
   leaf_goes h = rw h
 
   module _ (key : List ℕ) (child : ℕ) where
-    pub branch_size : size_allowed P ≡ false → new_branch_of P key child out ≡ refused 1 0 0
+    pub branch_size : size_allowed P ≡ false → new_branch_of P key child out ≡ Err (breach Geometry 0 0)
     unfolding new_branch_of
     branch_size h = rw h
 
-    pub branch_child : size_allowed P ≡ true → child < 2 → new_branch_of P key child out ≡ refused 11 0 0
+    pub branch_child : size_allowed P ≡ true → child < 2 → new_branch_of P key child out ≡ Err (breach Argument 0 0)
     unfolding new_branch_of
     branch_child h l = rw (h, lt-ltb child 2 l)
 
@@ -93,16 +91,16 @@ module _ (P : ℕ) (out : List ℕ) where
 
 -- ---- insert in a leaf
 module _ (P : ℕ) (b key : List ℕ) (kind : ℕ) (value out : List ℕ) where
-  pub insert_breach : (number element common : ℕ) → lent_check_of P b ≡ Breach number element common → insert_of P b key kind value out ≡ refused number element common
+  pub insert_breach : (e : Breach) → lent_check_of P b ≡ Err e → insert_of P b key kind value out ≡ Err e
   unfolding insert_of
-  insert_breach number element common e = rw e
+  insert_breach e h = rw h
 
-  module _ (passed : lent_check_of P b ≡ Sound) where
-    pub insert_branch_lem : is_leaf b ≡ false → insert_of P b key kind value out ≡ refused 11 0 0
+  module _ (passed : lent_check_of P b ≡ Ok tt) where
+    pub insert_branch_lem : is_leaf b ≡ false → insert_of P b key kind value out ≡ Err (breach Argument 0 0)
     unfolding insert_of
     insert_branch_lem h = rw (passed, h)
 
-    pub insert_kind : is_leaf b ≡ true → kind_bad kind (length value) ≡ true → insert_of P b key kind value out ≡ refused 11 0 0
+    pub insert_kind : is_leaf b ≡ true → kind_bad kind (length value) ≡ true → insert_of P b key kind value out ≡ Err (breach Argument 0 0)
     unfolding insert_of
     insert_kind h k = rw (passed, h, k)
 
@@ -112,26 +110,21 @@ module _ (P : ℕ) (b key : List ℕ) (kind : ℕ) (value out : List ℕ) where
     insert_goes h k = rw (passed, h, k)
 
 -- ---- insert in a branch
-module _ (P : ℕ) (b : List ℕ) (has : Bool) (original key : List ℕ) (child : ℕ) (out : List ℕ) where
-  pub branched_breach : (number element common : ℕ) → lent_check_of P b ≡ Breach number element common → insert_branch_of P b has original key child out ≡ refused number element common
+module _ (P : ℕ) (b : List ℕ) (original : Option (List ℕ)) (key : List ℕ) (child : ℕ) (out : List ℕ) where
+  pub branched_breach : (e : Breach) → lent_check_of P b ≡ Err e → insert_branch_of P b original key child out ≡ Err e
   unfolding insert_branch_of
-  branched_breach number element common e = rw e
+  branched_breach e h = rw h
 
-  module _ (passed : lent_check_of P b ≡ Sound) where
-    pub branched_leaf : is_leaf b ≡ true → insert_branch_of P b has original key child out ≡ refused 11 0 0
+  module _ (passed : lent_check_of P b ≡ Ok tt) where
+    pub branched_leaf : is_leaf b ≡ true → insert_branch_of P b original key child out ≡ Err (breach Argument 0 0)
     unfolding insert_branch_of
     branched_leaf h = rw (passed, h)
 
-    pub branched_child : is_leaf b ≡ false → child < 2 → insert_branch_of P b has original key child out ≡ refused 11 0 0
+    pub branched_child : is_leaf b ≡ false → child < 2 → insert_branch_of P b original key child out ≡ Err (breach Argument 0 0)
     unfolding insert_branch_of
     branched_child h l = rw (passed, h, lt-ltb child 2 l)
 
-    pub branched_replaces : is_leaf b ≡ false → 2 ≤ child → has ≡ true
-        → insert_branch_of P b has original key child out ≡ replace_branch P out original (entry_with child key []) (entries_of false b)
+    pub branched_goes : is_leaf b ≡ false → 2 ≤ child
+        → insert_branch_of P b original key child out ≡ branch_outcome P out original (entry_with child key []) (entries_of false b)
     unfolding insert_branch_of
-    branched_replaces h l t = rw (passed, h, le-ltb child 2 l, t)
-
-    pub branched_adds : is_leaf b ≡ false → 2 ≤ child → has ≡ false
-        → insert_branch_of P b has original key child out ≡ add_branch P out (entry_with child key []) (entries_of false b)
-    unfolding insert_branch_of
-    branched_adds h l t = rw (passed, h, le-ltb child 2 l, t)
+    branched_goes h l = rw (passed, h, le-ltb child 2 l)

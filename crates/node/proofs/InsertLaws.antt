@@ -1,14 +1,16 @@
 -- Where an entry is inserted: in place of an equal key, and else between the lower keys and the higher ones.
 -- Assumes nothing.
 use mathlib.Core.Path.{◌≡◌, refl, sym, ap}
-use mathlib.Core.Bool.{Bool, true}
+use mathlib.Core.Bool.{Bool, true, false}
 use mathlib.Core.List.{List, ◌∷◌}
 use mathlib.Core.Logic.{⊎_elim}
 use Prim.Native.Nat.{ℕ, zero, suc, ◌+◌, ◌≤◌, ◌<◌}
 use native.Mathlib.Nat.{add-zero, zero-add, eq-or-lt_of_le}
 use native.Mathlib.Numerals.{add-one}
 use native.Mathlib.Omega.{arith}
-use Rattle.field.specs.declared.order.Order.TheVariants.{Lower, Equal, Higher}
+use Rattle.std.specs.declared.cmp.Ordering.{Ordering}
+use Rattle.std.specs.declared.cmp.Ordering.TheVariants.{Less, Equal, Greater}
+use Rattle.std.specs.Ordering.{is_lt}
 use Rattle.field.specs.Order.{order_of}
 use Rattle.field.proofs.OrderLaws.{order_refl}
 use Rattle.page.specs.declared.search.Place.{Place}
@@ -21,8 +23,8 @@ use Rattle.node.specs.Neighbours.{Between}
 
 -- ---- among the k entries from i on
 module _ (leaf : Bool) (b : List ℕ) (e : Entry) where
-  insert_from : (k i m : ℕ) → m ≤ k → ((j : ℕ) → i ≤ j → j < i + m → order_of (key_of leaf b j) e.key ≡ Lower)
-      → (m < k → order_of (key_of leaf b (i + m)) e.key ≡ Higher) → inserted e (entries_from leaf b k i) ≡ insert_at m e (entries_from leaf b k i)
+  insert_from : (k i m : ℕ) → m ≤ k → ((j : ℕ) → i ≤ j → j < i + m → order_of (key_of leaf b j) e.key ≡ Less)
+      → (m < k → order_of (key_of leaf b (i + m)) e.key ≡ Greater) → inserted e (entries_from leaf b k i) ≡ insert_at m e (entries_from leaf b k i)
   unfolding inserted entries_from
   insert_from zero i zero l low high = refl
   insert_from zero i (suc m) l low high = absurd (omega arith)
@@ -32,7 +34,7 @@ module _ (leaf : Bool) (b : List ℕ) (e : Entry) where
       rw (low i (omega arith) (omega arith))
       (ap (λ (es : List Entry). entry_of leaf b i ∷ es) (insert_from k (i + 1) m (omega arith) (λ j p q. low j (omega arith) (omega arith)) (λ q. rw z (high (omega arith)))))
 
-  replace_from : (k i m : ℕ) → m < k → ((j : ℕ) → i ≤ j → j < i + m → order_of (key_of leaf b j) e.key ≡ Lower)
+  replace_from : (k i m : ℕ) → m < k → ((j : ℕ) → i ≤ j → j < i + m → order_of (key_of leaf b j) e.key ≡ Less)
       → order_of (key_of leaf b (i + m)) e.key ≡ Equal → inserted e (entries_from leaf b k i) ≡ replace_at m e (entries_from leaf b k i)
   unfolding inserted entries_from
   replace_from zero i m l low same = absurd (omega arith)
@@ -72,7 +74,7 @@ module _ (leaf : Bool) (b key : List ℕ) (at : ℕ) (m : Missing leaf b key at)
     at_place : at ≤ m.place
     at_place = let t = m.told in omega arith
 
-    pub after_lower : order_of (key_of leaf b at) key ≡ Lower → Between leaf b key (at + 1)
+    pub after_lower : order_of (key_of leaf b at) key ≡ Less → Between leaf b key (at + 1)
     after_lower e =
         let t = m.told in
         ⊎_elim
@@ -80,16 +82,24 @@ module _ (leaf : Bool) (b key : List ℕ) (at : ℕ) (m : Missing leaf b key at)
         (λ q. between (at + 1) (omega arith))
         (eq-or-lt_of_le at_place)
 
-    pub at_higher : order_of (key_of leaf b at) key ≡ Higher → Between leaf b key at
+    at_higher : order_of (key_of leaf b at) key ≡ Greater → Between leaf b key at
     at_higher e =
         ⊎_elim
         (λ q. between at q)
         (λ q. let h = m.lower at q in absurd (let z : ◌≡◌ {A = ℕ} 0 1 = cc in omega arith))
         (eq-or-lt_of_le at_place)
 
-    pub never_equal : order_of (key_of leaf b at) key ≡ Equal → ⊥
+    never_equal : order_of (key_of leaf b at) key ≡ Equal → ⊥
     never_equal e =
         ⊎_elim
         (λ q. let h = m.higher at (omega arith) l in let z : ◌≡◌ {A = ℕ} 0 1 = cc in omega arith)
         (λ q. let h = m.lower at q in let z : ◌≡◌ {A = ℕ} 0 1 = cc in omega arith)
         (eq-or-lt_of_le at_place)
+
+    pub not_lower : is_lt (order_of (key_of leaf b at) key) ≡ false → Between leaf b key at
+    not_lower h = go (order_of (key_of leaf b at) key) refl
+      where
+        go : (o : Ordering) → order_of (key_of leaf b at) key ≡ o → Between leaf b key at
+        go Less e = absurd (let t : is_lt Less ≡ false = rw e at h in let z : ◌≡◌ {A = ℕ} 0 1 = cc in omega arith)
+        go Equal e = absurd (never_equal e)
+        go Greater e = at_higher e

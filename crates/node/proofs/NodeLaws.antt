@@ -9,12 +9,12 @@ use lib.Dec.{ltb}
 use lib.ListN.{length}
 use borrow.Author.Tests.{lt-ltb, le-ltb, leb-true, not-false}
 use Rattle.field.specs.Sizes.{size_allowed}
-use Rattle.page.specs.declared.rules.Verdict.TheVariants.{Sound}
 use Rattle.page.specs.Layout.{is_leaf}
 use Rattle.page.specs.PageRules.{SoundBlock, lent_check_of}
 use Rattle.page.proofs.TestLaws.{and_both}
 use Rattle.page.proofs.LentLaws.{lent_iff, lent_sound}
 use Rattle.size.specs.Size.{node_limit, capped_size}
+use Rattle.std.specs.Prelude.{Ok}
 
 -- ---- page sizes
 pub allowed_range : (P : ℕ) → size_allowed P ≡ true → (1024 ≤ P) × (P ≤ 65536)
@@ -28,7 +28,7 @@ pub record Lent (P : ℕ) (b : List ℕ) : Type 0 where
   pub long : 32 ≤ length b
   pub sound : SoundBlock (is_leaf b) true b
 
-pub lent : (P : ℕ) (b : List ℕ) → lent_check_of P b ≡ Sound → Lent P b
+pub lent : (P : ℕ) (b : List ℕ) → lent_check_of P b ≡ Ok tt → Lent P b
 lent P b e =
     let s = lent_sound P b e in
     let a = (and_both _ _ (not-false _ ((lent_iff P b).0 e).0)).0 in
@@ -36,7 +36,7 @@ lent P b e =
     record { allowed = a; least = r.0; most = r.1; long = s.0; sound = s.1 }
 
 -- as a leaf, and as a branch
-pub lent_as : (P : ℕ) (b : List ℕ) (leaf : Bool) → lent_check_of P b ≡ Sound → is_leaf b ≡ leaf → SoundBlock leaf true b
+pub lent_as : (P : ℕ) (b : List ℕ) (leaf : Bool) → lent_check_of P b ≡ Ok tt → is_leaf b ≡ leaf → SoundBlock leaf true b
 lent_as P b leaf e h = let s : SoundBlock (is_leaf b) true b = (lent P b e).sound in rw h at s
 
 -- ---- a counted size past the limit, and one within it

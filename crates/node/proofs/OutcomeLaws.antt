@@ -8,34 +8,35 @@ use native.Mathlib.Omega.{arith}
 use lib.Dec.{ltb}
 use lib.ListN.{length}
 use borrow.Author.Tests.{ltb-false}
-use Rattle.field.specs.declared.order.Order.{Order}
-use Rattle.field.specs.declared.order.Order.TheVariants.{Lower, Equal, Higher}
+use Rattle.std.specs.declared.cmp.Ordering.{Ordering}
+use Rattle.std.specs.declared.cmp.Ordering.TheVariants.{Less, Equal, Greater}
 use Rattle.field.specs.Order.{order_of}
 use Rattle.field.proofs.OrderLaws.{order_equal, lower_iff}
-use Rattle.page.specs.declared.rules.Verdict.{Verdict}
-use Rattle.page.specs.declared.rules.Verdict.TheVariants.{Sound, Breach}
 use Rattle.page.specs.Layout.{Entry, entry_of, entries_from}
-use Rattle.page.specs.PageRules.{after_check}
+use Rattle.page.specs.PageRules.{and_then, Verdict}
 use Rattle.pack.specs.Pack.{node_size, block_size}
 use Rattle.pack.specs.Entries.{Each, RisingEntries}
 use Rattle.size.specs.Size.{node_limit}
-use Rattle.node.specs.Edit.{Outcome, refused, node, refuse, written, inserted}
+use Rattle.node.specs.Edit.{Outcome, refuse, written, inserted}
+use Rattle.std.specs.Prelude.{Ok, Err}
+use Rattle.field.specs.declared.refusal.Refusal.TheVariants.{OutputShort, NodeTooLarge}
+use Rattle.field.specs.declared.refusal.Refusal.{Refusal}
 
 -- ---- an outcome that is a node
 module _ {es : List Entry} where
-  pub checked_node : (v : Verdict) (o : Outcome) → after_check v refused o ≡ node es → (v ≡ Sound) × (o ≡ node es)
-  checked_node Sound o e = (refl, e)
-  checked_node (Breach n i common) o e = absurd (let z : ◌≡◌ {A = ℕ} 0 1 = cc in omega arith)
+  pub checked_node : (v : Verdict) (o : Outcome) → and_then v o ≡ Ok es → (v ≡ Ok tt) × (o ≡ Ok es)
+  checked_node (Ok u) o e = (refl, e)
+  checked_node (Err b) o e = absurd (let z : ◌≡◌ {A = ℕ} 0 1 = cc in omega arith)
 
-  pub refuse_node : (bad : Bool) (n : ℕ) (o : Outcome) → refuse bad n o ≡ node es → (bad ≡ false) × (o ≡ node es)
-  refuse_node false n o e = (refl, e)
-  refuse_node true n o e = absurd (let z : ◌≡◌ {A = ℕ} 0 1 = cc in omega arith)
+  pub refuse_node : (bad : Bool) (refusal : Refusal) (o : Outcome) → refuse bad refusal o ≡ Ok es → (bad ≡ false) × (o ≡ Ok es)
+  refuse_node false refusal o e = (refl, e)
+  refuse_node true refusal o e = absurd (let z : ◌≡◌ {A = ℕ} 0 1 = cc in omega arith)
 
-  pub written_node : (leaf : Bool) (P : ℕ) (out : List ℕ) (fs : List Entry) → written leaf P out fs ≡ node es → (node_size leaf fs ≤ node_limit) × (fs ≡ es)
+  pub written_node : (leaf : Bool) (P : ℕ) (out : List ℕ) (fs : List Entry) → written leaf P out fs ≡ Ok es → (node_size leaf fs ≤ node_limit) × (fs ≡ es)
   unfolding written
   written_node leaf P out fs e =
-      let first = refuse_node (ltb node_limit (node_size leaf fs)) 15 (refuse (ltb (length out) (block_size leaf fs P)) 10 (node fs)) e in
-      let same : node fs ≡ node es = (refuse_node (ltb (length out) (block_size leaf fs P)) 10 (node fs) first.1).1 in
+      let first = refuse_node (ltb node_limit (node_size leaf fs)) NodeTooLarge (refuse (ltb (length out) (block_size leaf fs P)) OutputShort (Ok fs)) e in
+      let same : Ok fs ≡ Ok es = (refuse_node (ltb (length out) (block_size leaf fs P)) OutputShort (Ok fs) first.1).1 in
       (ltb-false node_limit (node_size leaf fs) first.0, cc)
 
 -- ---- what holds of each entry
@@ -54,10 +55,10 @@ unfolding Each inserted
 each_inserted F e [] p h = (p, tt)
 each_inserted F e (f ∷ es) p h = go (each_inserted F e es p h.1) (order_of f.key e.key) refl
   where
-    go : Each F (inserted e es) → (o : Order) → order_of f.key e.key ≡ o → Each F (inserted e (f ∷ es))
-    go rest Lower q = rw q (h.0, rest)
+    go : Each F (inserted e es) → (o : Ordering) → order_of f.key e.key ≡ o → Each F (inserted e (f ∷ es))
+    go rest Less q = rw q (h.0, rest)
     go rest Equal q = rw q (p, h.1)
-    go rest Higher q = rw q (p, h)
+    go rest Greater q = rw q (p, h)
 
 -- an entry that is inserted is there
 pub inserted_there : (e : Entry) (es : List Entry) → Each (λ f. f.key ≡ e.key → ⊥) (inserted e es) → ⊥
@@ -65,40 +66,40 @@ unfolding Each inserted
 inserted_there e [] h = h.0 refl
 inserted_there e (f ∷ es) h = go (inserted_there e es) (order_of f.key e.key) refl h
   where
-    go : (Each (λ g. g.key ≡ e.key → ⊥) (inserted e es) → ⊥) → (o : Order) → order_of f.key e.key ≡ o
+    go : (Each (λ g. g.key ≡ e.key → ⊥) (inserted e es) → ⊥) → (o : Ordering) → order_of f.key e.key ≡ o
         → Each (λ g. g.key ≡ e.key → ⊥) (inserted e (f ∷ es)) → ⊥
-    go rest Lower q k = let m : Each (λ g. g.key ≡ e.key → ⊥) (f ∷ inserted e es) = rw q at k in rest m.1
+    go rest Less q k = let m : Each (λ g. g.key ≡ e.key → ⊥) (f ∷ inserted e es) = rw q at k in rest m.1
     go rest Equal q k = let m : Each (λ g. g.key ≡ e.key → ⊥) (e ∷ es) = rw q at k in m.0 refl
-    go rest Higher q k = let m : Each (λ g. g.key ≡ e.key → ⊥) (e ∷ f ∷ es) = rw q at k in m.0 refl
+    go rest Greater q k = let m : Each (λ g. g.key ≡ e.key → ⊥) (e ∷ f ∷ es) = rw q at k in m.0 refl
 
 -- ---- rising keys
-above_head : (f g e : Entry) (es : List Entry) → order_of f.key g.key ≡ Lower → order_of f.key e.key ≡ Lower
+above_head : (f g e : Entry) (es : List Entry) → order_of f.key g.key ≡ Less → order_of f.key e.key ≡ Less
     → RisingEntries (inserted e (g ∷ es)) → RisingEntries (f ∷ inserted e (g ∷ es))
 unfolding RisingEntries inserted
 above_head f g e es p q h = go (order_of g.key e.key) refl h
   where
-    go : (o : Order) → order_of g.key e.key ≡ o → RisingEntries (inserted e (g ∷ es)) → RisingEntries (f ∷ inserted e (g ∷ es))
-    go Lower r k = rw r (p, rw r at k)
+    go : (o : Ordering) → order_of g.key e.key ≡ o → RisingEntries (inserted e (g ∷ es)) → RisingEntries (f ∷ inserted e (g ∷ es))
+    go Less r k = rw r (p, rw r at k)
     go Equal r k = rw r (q, rw r at k)
-    go Higher r k = rw r (q, rw r at k)
+    go Greater r k = rw r (q, rw r at k)
 
 pub rising_inserted : (e : Entry) (es : List Entry) → RisingEntries es → RisingEntries (inserted e es)
 unfolding RisingEntries inserted
 rising_inserted e [] h = tt
 rising_inserted e (f ∷ []) h = go (order_of f.key e.key) refl
   where
-    go : (o : Order) → order_of f.key e.key ≡ o → RisingEntries (inserted e (f ∷ []))
-    go Lower q = rw q (q, tt)
+    go : (o : Ordering) → order_of f.key e.key ≡ o → RisingEntries (inserted e (f ∷ []))
+    go Less q = rw q (q, tt)
     go Equal q = rw q tt
-    go Higher q = rw q ((lower_iff e.key f.key).1 q, tt)
+    go Greater q = rw q ((lower_iff e.key f.key).1 q, tt)
 rising_inserted e (f ∷ g ∷ es) h = go (rising_inserted e (g ∷ es) h.1) (order_of f.key e.key) refl
   where
-    go : RisingEntries (inserted e (g ∷ es)) → (o : Order) → order_of f.key e.key ≡ o → RisingEntries (inserted e (f ∷ g ∷ es))
-    go rest Lower q = rw q (above_head f g e es h.0 q rest)
+    go : RisingEntries (inserted e (g ∷ es)) → (o : Ordering) → order_of f.key e.key ≡ o → RisingEntries (inserted e (f ∷ g ∷ es))
+    go rest Less q = rw q (above_head f g e es h.0 q rest)
     go rest Equal q = rw q (rw (order_equal f.key e.key q) at h.0, h.1)
-    go rest Higher q = rw q ((lower_iff e.key f.key).1 q, h)
+    go rest Greater q = rw q ((lower_iff e.key f.key).1 q, h)
 
-pub rising_append : (xs ys : List Entry) → RisingEntries xs → RisingEntries ys → Each (λ x. Each (λ y. order_of x.key y.key ≡ Lower) ys) xs
+pub rising_append : (xs ys : List Entry) → RisingEntries xs → RisingEntries ys → Each (λ x. Each (λ y. order_of x.key y.key ≡ Less) ys) xs
     → RisingEntries (xs ++ ys)
 unfolding RisingEntries Each
 rising_append [] ys h k a = k

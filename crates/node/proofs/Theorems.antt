@@ -7,12 +7,10 @@ use Prim.Native.Nat.{ℕ, ◌+◌, ◌-◌, ◌≤◌, ◌<◌}
 use native.Mathlib.Omega.{arith}
 use lib.ListN.{length}
 use borrow.Author.Tests.{not-false, ltb-true}
-use Rattle.field.specs.declared.order.Order.TheVariants.{Lower}
+use Rattle.std.specs.declared.cmp.Ordering.TheVariants.{Less}
 use Rattle.field.specs.Order.{order_of}
 use Rattle.field.proofs.FieldLaws.{Bytes}
 use Rattle.field.proofs.OrderLaws.{order_refl}
-use Rattle.page.specs.declared.rules.Verdict.TheVariants.{Sound}
-use Rattle.page.specs.declared.search.Indexed.TheVariants.{At}
 use Rattle.page.specs.Layout.{Entry, id_of, count_of, is_leaf, key_of, entries_of}
 use Rattle.page.specs.PageRules.{kind_bad, SoundBlock, lent_check_of}
 use Rattle.page.specs.Search.{place_of, index_of}
@@ -25,18 +23,20 @@ use Rattle.pack.proofs.RangeLaws.{range_first, range_last}
 use Rattle.pack.proofs.Decode.{decode}
 use Rattle.pack.proofs.PackedSound.{each_map, each_at, good_storable, good_from, rising_from, lent_packed, leaf_packed}
 use Rattle.size.specs.Size.{node_limit}
-use Rattle.node.specs.Edit.{node, inserted, insert_of, delete_of}
+use Rattle.node.specs.Edit.{inserted, insert_of, delete_of}
 use Rattle.node.proofs.NodeLaws.{lent, lent_as}
 use Rattle.node.proofs.InsertLaws.{place_is}
 use Rattle.node.proofs.OutcomeLaws.{checked_node, refuse_node, written_node, each_append, each_from, each_inserted, inserted_there, rising_inserted, rising_append}
+use Rattle.std.specs.Prelude.{Ok}
+use Rattle.field.specs.declared.refusal.Refusal.TheVariants.{Argument}
 
 -- ---- a leaf packed of good entries in order
-module _ (P id : ℕ) (b : List ℕ) (es : List Entry) (passed : lent_check_of P b ≡ Sound) (small : node_size true es ≤ node_limit)
+module _ (P id : ℕ) (b : List ℕ) (es : List Entry) (passed : lent_check_of P b ≡ Ok tt) (small : node_size true es ≤ node_limit)
     (good : Each (Good true) es) (rising : RisingEntries es) where
   positive : 0 < P
   positive = let l = (lent P b passed).least in omega arith
 
-  pub made_passes : lent_check_of P (pack true id es P) ≡ Sound
+  pub made_passes : lent_check_of P (pack true id es P) ≡ Ok tt
   made_passes = lent_packed true id es P positive (omega arith) (lent P b passed).allowed (λ z. refl) good rising
 
   pub made_holds : entries_of true (pack true id es P) ≡ es
@@ -62,15 +62,15 @@ module _ (P id : ℕ) (b : List ℕ) (es : List Entry) (passed : lent_check_of P
 
   -- so that `index` answers by the search
   pub made_index : (key : List ℕ) (t : Bool) → (place_of true (pack true id es P) key).found ≡ t
-      → index_of P (pack true id es P) key ≡ At (record { at = (place_of true (pack true id es P) key).at; found = t })
+      → index_of P (pack true id es P) key ≡ Ok (record { at = (place_of true (pack true id es P) key).at; found = t })
   unfolding index_of
   made_index key t h =
-      rw (made_passes, leaf_packed true id es P positive (omega arith)) (ap At (place_is (place_of true (pack true id es P) key) t h))
+      rw (made_passes, leaf_packed true id es P positive (omega arith)) (ap Ok (place_is (place_of true (pack true id es P) key) t h))
 
 -- ---- insert: the block written passes, holds the entries with the new one in order, and its key is found
-module _ (P : ℕ) (b key : List ℕ) (kind : ℕ) (value out : List ℕ) (es : List Entry) (bytes : Bytes b) (done : insert_of P b key kind value out ≡ node es) where
+module _ (P : ℕ) (b key : List ℕ) (kind : ℕ) (value out : List ℕ) (es : List Entry) (bytes : Bytes b) (done : insert_of P b key kind value out ≡ Ok es) where
   record Inserted : Type 0 where
-    passed : lent_check_of P b ≡ Sound
+    passed : lent_check_of P b ≡ Ok tt
     leaf : is_leaf b ≡ true
     kind_good : kind_bad kind (length value) ≡ false
     small : node_size true (inserted (entry_with kind key value) (entries_of true b)) ≤ node_limit
@@ -80,8 +80,8 @@ module _ (P : ℕ) (b key : List ℕ) (kind : ℕ) (value out : List ℕ) (es : 
   unfolding insert_of
   went =
       let first = checked_node _ _ done in
-      let second = refuse_node _ 11 _ first.1 in
-      let third = refuse_node _ 11 _ second.1 in
+      let second = refuse_node _ Argument _ first.1 in
+      let third = refuse_node _ Argument _ second.1 in
       let last = written_node true P out _ third.1 in
       record { passed = first.0; leaf = not-false _ second.0; kind_good = third.0; small = last.0; same = last.1 }
 
@@ -96,7 +96,7 @@ module _ (P : ℕ) (b key : List ℕ) (kind : ℕ) (value out : List ℕ) (es : 
   unfolding entries_of
   rising = rising_inserted (entry_with kind key value) _ (rising_from true true b source (count_of b) 0 (omega arith))
 
-  pub insert_passes : lent_check_of P (pack true (id_of b) es P) ≡ Sound
+  pub insert_passes : lent_check_of P (pack true (id_of b) es P) ≡ Ok tt
   insert_passes = rw (sym went.same) (made_passes P (id_of b) b _ went.passed went.small good rising)
 
   pub insert_holds : entries_of true (pack true (id_of b) es P) ≡ inserted (entry_with kind key value) (entries_of true b)
@@ -110,13 +110,13 @@ module _ (P : ℕ) (b key : List ℕ) (kind : ℕ) (value out : List ℕ) (es : 
       go false h =
           absurd (inserted_there (entry_with kind key value) (entries_of true b) (made_none P (id_of b) b _ went.passed went.small good rising key h))
 
-  pub insert_index : index_of P (pack true (id_of b) es P) key ≡ At (record { at = (place_of true (pack true (id_of b) es P) key).at; found = true })
+  pub insert_index : index_of P (pack true (id_of b) es P) key ≡ Ok (record { at = (place_of true (pack true (id_of b) es P) key).at; found = true })
   insert_index = rw (sym went.same) (made_index P (id_of b) b _ went.passed went.small good rising key true (rw went.same insert_found))
 
 -- ---- delete: the block written passes, holds the entries without the one, and its key is not found
-module _ (P : ℕ) (b : List ℕ) (i : ℕ) (out : List ℕ) (es : List Entry) (bytes : Bytes b) (done : delete_of P b i out ≡ node es) where
+module _ (P : ℕ) (b : List ℕ) (i : ℕ) (out : List ℕ) (es : List Entry) (bytes : Bytes b) (done : delete_of P b i out ≡ Ok es) where
   record Gone : Type 0 where
-    passed : lent_check_of P b ≡ Sound
+    passed : lent_check_of P b ≡ Ok tt
     leaf : is_leaf b ≡ true
     below : i < count_of b
     small : node_size true (remove_at i (entries_of true b)) ≤ node_limit
@@ -126,8 +126,8 @@ module _ (P : ℕ) (b : List ℕ) (i : ℕ) (out : List ℕ) (es : List Entry) (
   unfolding delete_of
   gone =
       let first = checked_node _ _ done in
-      let second = refuse_node _ 11 _ first.1 in
-      let third = refuse_node _ 11 _ second.1 in
+      let second = refuse_node _ Argument _ first.1 in
+      let third = refuse_node _ Argument _ second.1 in
       let last = written_node true P out _ third.1 in
       record { passed = first.0; leaf = not-false _ second.0; below = ltb-true i (count_of b) (not-false _ third.0); small = last.0; same = last.1 }
 
@@ -155,7 +155,7 @@ module _ (P : ℕ) (b : List ℕ) (i : ℕ) (out : List ℕ) (es : List Entry) (
       (each_from _ true b (i - 0) 0
       (λ j p q. each_from _ true b (count_of b - (i + 1)) (i + 1) (λ k r t. rising_far true true b whole j k (omega arith) (omega arith)))))
 
-  equal_not_lower : order_of (key_of true b i) (key_of true b i) ≡ Lower → ⊥
+  equal_not_lower : order_of (key_of true b i) (key_of true b i) ≡ Less → ⊥
   equal_not_lower e =
       let f = order_refl (key_of true b i) in
       let z : ◌≡◌ {A = ℕ} 0 1 = cc in
@@ -168,7 +168,7 @@ module _ (P : ℕ) (b : List ℕ) (i : ℕ) (out : List ℕ) (es : List Entry) (
       (each_from _ true b (i - 0) 0 (λ j p q same. equal_not_lower (rw same at (rising_far true true b whole j i (omega arith) l))))
       (each_from _ true b (count_of b - (i + 1)) (i + 1) (λ j p q same. equal_not_lower (rw same at (rising_far true true b whole i j (omega arith) (omega arith)))))
 
-  pub delete_passes : lent_check_of P (pack true (id_of b) es P) ≡ Sound
+  pub delete_passes : lent_check_of P (pack true (id_of b) es P) ≡ Ok tt
   delete_passes = rw (sym gone.same) (made_passes P (id_of b) b _ gone.passed gone.small left_good left_rising)
 
   pub delete_holds : entries_of true (pack true (id_of b) es P) ≡ remove_at i (entries_of true b)
@@ -178,7 +178,7 @@ module _ (P : ℕ) (b : List ℕ) (i : ℕ) (out : List ℕ) (es : List Entry) (
   delete_absent = rw (sym gone.same) (made_absent P (id_of b) b _ gone.passed gone.small left_good left_rising (key_of true b i) left_other)
 
   pub delete_index : index_of P (pack true (id_of b) es P) (key_of true b i)
-      ≡ At (record { at = (place_of true (pack true (id_of b) es P) (key_of true b i)).at; found = false })
+      ≡ Ok (record { at = (place_of true (pack true (id_of b) es P) (key_of true b i)).at; found = false })
   delete_index =
       rw (sym gone.same)
       (made_index P (id_of b) b _ gone.passed gone.small left_good left_rising (key_of true b i) false (rw gone.same delete_absent))

@@ -7,5 +7,5 @@ pub mod measure;
 pub mod place;
 pub mod result;
 
-pub use edit::{Deleted, Edited};
-pub use measure::{Measure, Merging};
+pub use edit::Removed;
+pub use measure::Measure;

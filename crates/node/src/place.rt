@@ -1,6 +1,5 @@
 // Where a new entry goes among a sound block's, and the block with it.
 ghost use Rattle.std.specs.Prelude.{◌≡◌, true, false, List, ℕ};
-ghost use Rattle.page.specs.declared.rules.Verdict.TheVariants.{Sound};
 ghost use Rattle.page.specs.Layout.{id_of, count_of, is_leaf, entries_of};
 ghost use Rattle.page.specs.PageRules.{SoundBlock, lent_check_of};
 ghost use Rattle.page.specs.Search.{place_of};
@@ -8,10 +7,9 @@ ghost use Rattle.pack.specs.Plan.{entry_with, planned, Within};
 ghost use Rattle.node.specs.Edit.{written, Edits, inserted};
 ghost use Rattle.node.specs.Neighbours.{Between};
 
-use super::edit::Edited;
 use super::result::write_planned;
-use field::Order;
 use pack::write::Plan;
+use page::Breach;
 use page::layout::{count, id, key_order};
 use page::search::find;
 
@@ -23,10 +21,10 @@ fn insertion_place(b: &[u8], leaf: bool, n: usize, key: &[u8], at: usize) -> usi
     if n == 0 {
         return 0;
     }
-    match key_order(b, leaf, at, key) {
-        Order::Lower => at + 1,
-        Order::Equal => at,
-        Order::Higher => at,
+    if key_order(b, leaf, at, key).is_lt() {
+        at + 1
+    } else {
+        at
     }
 }
 
@@ -44,8 +42,7 @@ fn plan_of(b: &[u8], leaf: bool, tag: u64, key: &[u8]) -> Plan
         return Plan {
             first: 0,
             stop: at,
-            some: true,
-            tag,
+            tag: Some(tag),
             resume: at + 1,
             last: n,
         };
@@ -54,8 +51,7 @@ fn plan_of(b: &[u8], leaf: bool, tag: u64, key: &[u8]) -> Plan
     Plan {
         first: 0,
         stop: i,
-        some: true,
-        tag,
+        tag: Some(tag),
         resume: i,
         last: n,
     }
@@ -70,8 +66,8 @@ pub fn put(
     key: &[u8],
     value: &[u8],
     out: &mut [u8],
-) -> Edited
-    requires { (lent_check_of p b.now ≡ Sound) × (is_leaf b.now ≡ leaf) }
+) -> Result<usize, Breach>
+    requires { (lent_check_of p b.now ≡ Ok tt) × (is_leaf b.now ≡ leaf) }
     ensures { Edits leaf (id_of b.now) p out.old
         (written leaf p out.old (inserted (entry_with tag key.now value.now) (entries_of leaf b.now))) result out.new }
 {

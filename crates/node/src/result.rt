@@ -1,15 +1,15 @@
 // The resulting node of an edit: its size, and its block in the output.
 ghost use Rattle.std.specs.Prelude.{◌≡◌, true, ◌+◌, ◌<◌, ◌≤◌};
 ghost use Rattle.page.specs.PageRules.{SoundBlock};
-ghost use Rattle.field.specs.Sizes.{pages_needed};
 ghost use Rattle.pack.specs.Pack.{node_size};
 ghost use Rattle.pack.specs.Plan.{fresh, planned, Within};
 ghost use Rattle.size.specs.Size.{node_limit, capped_size, entries_size};
 ghost use Rattle.node.specs.Edit.{written, Edits};
 
-use super::edit::Edited;
+use field::Refusal;
 use pack::element::element_size;
 use pack::write::{Plan, write};
+use page::Breach;
 use size::{NODE_HEADER, NODE_LIMIT, add_entries, add_size};
 
 // A size with the plan's new entry more, if there is one, counted no further than one past the limit.
@@ -17,12 +17,14 @@ fn add_new(sum: usize, leaf: bool, plan: Plan, key: &[u8], value: &[u8]) -> usiz
     requires { sum ≤ node_limit + 1 }
     ensures { result ≡ capped_size (sum + entries_size leaf (fresh plan key.now value.now)) }
 {
-    if plan.some {
-        let a = add_size(sum, element_size(leaf));
-        let k = add_size(a, key.len());
-        return add_size(k, value.len());
+    match plan.tag {
+        Some(_) => {
+            let a = add_size(sum, element_size(leaf));
+            let k = add_size(a, key.len());
+            add_size(k, value.len())
+        }
+        None => sum,
     }
-    sum
 }
 
 // The node size of the planned entries, counted no further than one past the limit.
@@ -36,15 +38,7 @@ fn plan_size(b: &[u8], leaf: bool, plan: Plan, key: &[u8], value: &[u8]) -> usiz
     add_entries(b, leaf, plan.resume, plan.last, middle)
 }
 
-// How many pages a size takes.
-pub fn pages_needed(size: usize, p: usize) -> usize
-    requires { (size ≤ 1048577) × (0 < p) × (p ≤ 65536) }
-    ensures { result ≡ pages_needed size p }
-{
-    (size + (p - 1)) / p
-}
-
-// Writes the block of the planned entries: refused with 15 where the node is above the limit, and with 10 where the output is too short.
+// Writes the block of the planned entries: refused where the node is above the limit, and where the output is too short.
 pub fn write_planned(
     b: &[u8],
     leaf: bool,
@@ -54,7 +48,7 @@ pub fn write_planned(
     id: u64,
     p: usize,
     out: &mut [u8],
-) -> Edited
+) -> Result<usize, Breach>
     requires sound_block { SoundBlock leaf true b.now }
     requires within { Within b.now plan }
     requires p_nonzero { (0 < p) × (p ≤ 65536) }
@@ -63,11 +57,10 @@ pub fn write_planned(
 {
     let size = plan_size(b, leaf, plan, key, value);
     if NODE_LIMIT < size {
-        return Edited::Refused(15, 0, 0);
+        return Err(Breach::from(Refusal::NodeTooLarge));
     }
-    let pages = pages_needed(size, p);
-    if out.len() / p < pages {
-        return Edited::Refused(10, 0, 0);
+    if out.len() / p < size.div_ceil(p) {
+        return Err(Breach::from(Refusal::OutputShort));
     }
-    Edited::Written(write(b, leaf, plan, key, value, id, p, out))
+    Ok(write(b, leaf, plan, key, value, id, p, out))
 }

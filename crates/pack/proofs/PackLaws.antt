@@ -3,11 +3,12 @@
 use mathlib.Core.Path.{◌≡◌, refl, sym, ap, ◌∙◌}
 use mathlib.Core.Bool.{Bool, true, false}
 use mathlib.Core.List.{List, [], ◌∷◌, ◌++◌, append_assoc}
-use Prim.Native.Nat.{ℕ, suc, ◌+◌, ◌-◌, ◌*◌, ◌≤◌, ◌<◌}
-use native.Mathlib.Nat.{add-zero, mul-zero, mul-suc, div-add-mod', mod-lt, le-div_iff_mul-le, suc-mul}
+use Prim.Native.Nat.{ℕ, zero, suc, ◌+◌, ◌-◌, ◌*◌, ◌/◌, ◌%◌, ◌≤◌, ◌<◌, min}
+use native.Mathlib.Nat.{add-zero, mul-zero, mul-suc, div-add-mod', mod-lt, le-div_iff_mul-le, div-lt_iff_lt-mul, suc-mul}
 use native.Mathlib.Omega.{arith}
 use lib.ListN.{length, take, drop, replicate, length-append, length-replicate}
 use lib.Seq.{take_at}
+use Rattle.std.specs.Int.{div_ceil}
 use Rattle.field.specs.Field.{bytes_of}
 use Rattle.field.specs.Run.{put_at}
 use Rattle.field.specs.Sizes.{pages_needed}
@@ -97,6 +98,26 @@ module _ (size P : ℕ) (h : 0 < P) where
 
   pub one_page : 0 < size → 1 ≤ pages_needed size P
   one_page k = (le-div_iff_mul-le h).1 (omega arith)
+
+  -- they are a division rounded up
+  pub ceil_pages : div_ceil size P ≡ pages_needed size P
+  ceil_pages = go (size % P) refl
+    where
+      go : (r : ℕ) → size % P ≡ r → size / P + min 1 r ≡ pages_needed size P
+      go zero e =
+          let d = div-add-mod' size P in
+          let m = suc-mul (size / P) P in
+          let low = (le-div_iff_mul-le {x = size / P} {y = size + (P - 1)} h).1 (omega arith) in
+          let high = (div-lt_iff_lt-mul {x = size + (P - 1)} {y = suc (size / P)} h).1 (omega arith) in
+          omega arith
+      go (suc r) e =
+          let d = div-add-mod' size P in
+          let s = mod-lt size h in
+          let m = suc-mul (size / P) P in
+          let n = suc-mul (suc (size / P)) P in
+          let low = (le-div_iff_mul-le {x = suc (size / P)} {y = size + (P - 1)} h).1 (omega arith) in
+          let high = (div-lt_iff_lt-mul {x = size + (P - 1)} {y = suc (suc (size / P))} h).1 (omega arith) in
+          omega arith
 
   pub last_page : 0 < size → (pages_needed size P - 1) * P < size
   last_page k =

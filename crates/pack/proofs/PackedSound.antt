@@ -11,11 +11,10 @@ use lib.Dec.{eqb}
 use lib.ListN.{length, length-drop}
 use lib.Seq.{length-take-le}
 use borrow.Author.Tests.{le-leb, eq-eqb}
-use Rattle.field.specs.declared.order.Order.TheVariants.{Lower}
+use Rattle.std.specs.declared.cmp.Ordering.TheVariants.{Less}
 use Rattle.field.specs.Order.{order_of}
 use Rattle.field.proofs.FieldLaws.{Bytes, field_fits}
 use Rattle.field.specs.Sizes.{size_allowed, pages_needed}
-use Rattle.page.specs.declared.rules.Verdict.TheVariants.{Sound}
 use Rattle.page.specs.Layout.{Entry, count_of, is_leaf, element_at, table_end, value_size, value_end, key_of, value_of, entry_of, entries_from}
 use Rattle.page.specs.PageRules.{header_bad, kind_bad, kind_bad_at, SoundBlock, check_of, lent_check_of, length_bad, lent_header_bad}
 use Rattle.page.proofs.RuleLaws.{header_iff, kind_iff, sound_check}
@@ -23,6 +22,7 @@ use Rattle.pack.specs.Pack.{node_size, type_number, pack}
 use Rattle.pack.specs.Entries.{Storable, Good, Each, RisingEntries}
 use Rattle.pack.proofs.PackLaws.{node_size_lem, length_pack, covers, one_page}
 use Rattle.pack.proofs.Decode.{id_packed, overflow_packed, type_packed, count_packed, length_packed, packed_run}
+use Rattle.std.specs.Prelude.{Ok}
 
 -- ---- entries
 pub each_map : {F G : Entry → Type 0} (es : List Entry) → ((e : Entry) → F e → G e) → Each F es → Each G es
@@ -47,13 +47,13 @@ each_at F leaf b (suc k) i h j l m =
     ⊎_elim (λ q. subst (λ (n : ℕ). F (entry_of leaf b n)) q h.0) (λ q. rest (omega arith) (omega arith)) (eq-or-lt_of_le l)
 
 pub rising_at : (leaf : Bool) (b : List ℕ) (k i : ℕ) → RisingEntries (entries_from leaf b k i)
-    → (j : ℕ) → i ≤ j → j + 1 < i + k → order_of (key_of leaf b j) (key_of leaf b (j + 1)) ≡ Lower
+    → (j : ℕ) → i ≤ j → j + 1 < i + k → order_of (key_of leaf b j) (key_of leaf b (j + 1)) ≡ Less
 unfolding RisingEntries entries_from
 rising_at leaf b zero i h j l m = absurd (omega arith)
 rising_at leaf b (suc zero) i h j l m = absurd (omega arith)
 rising_at leaf b (suc (suc k)) i h j l m =
     let rest = rising_at leaf b (suc k) (i + 1) h.1 j in
-    ⊎_elim (λ q. subst (λ (n : ℕ). order_of (key_of leaf b n) (key_of leaf b (n + 1)) ≡ Lower) q h.0) (λ q. rest (omega arith) (omega arith)) (eq-or-lt_of_le l)
+    ⊎_elim (λ q. subst (λ (n : ℕ). order_of (key_of leaf b n) (key_of leaf b (n + 1)) ≡ Less) q h.0) (λ q. rest (omega arith) (omega arith)) (eq-or-lt_of_le l)
 
 -- the value of an entry that lies within the block is as long as its element says
 value_length_lem : (leaf : Bool) (b : List ℕ) (i : ℕ) → value_end leaf b i ≤ length b → length (value_of leaf b i) ≡ value_size leaf b i
@@ -106,7 +106,7 @@ module _ (leaf empty_ok : Bool) (id : ℕ) (es : List Entry) (P : ℕ) (p : 0 < 
         rising = λ i l. rising_at leaf b (length es) 0 (subst RisingEntries (sym run.entries) rising) i (omega arith) (omega arith);
       }
 
-  pub check_packed : check_of leaf empty_ok (pack leaf id es P) ≡ Sound
+  pub check_packed : check_of leaf empty_ok (pack leaf id es P) ≡ Ok tt
   check_packed = sound_check leaf empty_ok (pack leaf id es P) packed_sound
 
 -- ---- and it passes rule 4, and as a lent block, for each allowed page size; an empty leaf does too
@@ -143,7 +143,7 @@ module _ (leaf : Bool) (id : ℕ) (es : List Entry) (P : ℕ) (p : 0 < P) (small
   header_good = rw (type_known leaf _ (type_packed leaf id es P), eq-eqb _ _ (length_packed leaf id es P p small))
 
   pub lent_packed : size_allowed P ≡ true → (length es ≡ 0 → leaf ≡ true) → Each (Good leaf) es → RisingEntries es
-      → lent_check_of P (pack leaf id es P) ≡ Sound
+      → lent_check_of P (pack leaf id es P) ≡ Ok tt
   unfolding lent_check_of
   lent_packed allowed filled good rising =
       rw (length_good allowed, header_good, leaf_packed) (check_packed leaf leaf id es P p small filled good rising)

@@ -1,13 +1,16 @@
 -- Laws of plans: how many entries and bytes are planned, what the writers of the three parts leave, and the plans of each edit.
 -- Assumes nothing.
 use mathlib.Core.Path.{◌≡◌, refl, sym, ap, ◌∙◌}
-use mathlib.Core.Bool.{Bool, true, false}
+use mathlib.Core.Bool.{Bool, true}
 use mathlib.Core.List.{List, [], ◌∷◌, ◌++◌, append_assoc, append-nil}
 use Prim.Native.Nat.{ℕ, ◌+◌, ◌-◌, ◌*◌, ◌≤◌, ◌<◌}
 use native.Mathlib.Nat.{mul-add, mul-zero}
 use native.Mathlib.Omega.{arith}
 use lib.ListN.{length, take, drop, replicate, length-append}
-use Rattle.field.specs.Field.{field, flag_of}
+use Rattle.std.specs.Prelude.{is_some, Some, None}
+use Rattle.std.specs.declared.option.Option.{Option}
+use Rattle.std.specs.Int.{from_bool}
+use Rattle.field.specs.Field.{field}
 use Rattle.field.specs.Run.{put_at}
 use Rattle.field.specs.Sizes.{pages_needed}
 use Rattle.page.specs.Layout.{Entry, element_size, element_at, count_of, entries_of}
@@ -21,36 +24,37 @@ use Rattle.pack.proofs.RangeLaws.{range_part, range_first, range_last, range_end
 
 -- ---- the new entry, or none
 module _ (p : Plan) (key value : List ℕ) where
-  fresh_length : length (fresh p key value) ≡ flag_of p.some
-  fresh_length = go p.some
+  fresh_length : length (fresh p key value) ≡ from_bool (is_some p.tag)
+  fresh_length = go p.tag
     where
-      go : (s : Bool) → length (maybe s (entry_with p.tag key value)) ≡ flag_of s
-      go true = refl
-      go false = refl
+      go : (t : Option ℕ) → length (maybe t key value) ≡ from_bool (is_some t)
+      go (Some tag) = refl
+      go None = refl
 
-  pub some_table : (leaf : Bool) (at d : ℕ) → p.some ≡ true → table leaf at d (fresh p key value) ≡ element leaf (d - at) (entry_with p.tag key value)
-  unfolding table
-  some_table leaf at d h = rw (h, append-nil)
+  module _ (tag : ℕ) (h : p.tag ≡ Some tag) where
+    pub some_table : (leaf : Bool) (at d : ℕ) → table leaf at d (fresh p key value) ≡ element leaf (d - at) (entry_with tag key value)
+    unfolding table
+    some_table leaf at d = rw (h, append-nil)
 
-  pub some_bodies : p.some ≡ true → bodies (fresh p key value) ≡ key ++ value
-  unfolding bodies
-  some_bodies h = rw (h, append-nil)
+    pub some_bodies : bodies (fresh p key value) ≡ key ++ value
+    unfolding bodies
+    some_bodies = rw (h, append-nil)
 
-  pub some_length : p.some ≡ true → length (bodies (fresh p key value)) ≡ length key + length value
-  some_length h = rw (some_bodies h) (length-append key value)
+    pub some_length : length (bodies (fresh p key value)) ≡ length key + length value
+    some_length = rw some_bodies (length-append key value)
 
-  pub none_table : (leaf : Bool) (at d : ℕ) → p.some ≡ false → table leaf at d (fresh p key value) ≡ []
+  pub none_table : (leaf : Bool) (at d : ℕ) → p.tag ≡ None → table leaf at d (fresh p key value) ≡ []
   unfolding table
   none_table leaf at d h = rw h
 
-  pub none_bodies : p.some ≡ false → bodies (fresh p key value) ≡ []
+  pub none_bodies : p.tag ≡ None → bodies (fresh p key value) ≡ []
   unfolding bodies
   none_bodies h = rw h
 
 -- ---- a plan
 pub table_parts : (leaf : Bool) (p : Plan)
-    → element_size leaf * count_in p ≡ element_size leaf * (p.stop - p.first) + element_size leaf * flag_of p.some + element_size leaf * (p.last - p.resume)
-table_parts leaf p = rw (mul-add (element_size leaf) (p.stop - p.first + flag_of p.some) (p.last - p.resume), mul-add (element_size leaf) (p.stop - p.first) (flag_of p.some))
+    → element_size leaf * count_in p ≡ element_size leaf * (p.stop - p.first) + element_size leaf * from_bool (is_some p.tag) + element_size leaf * (p.last - p.resume)
+table_parts leaf p = rw (mul-add (element_size leaf) (p.stop - p.first + from_bool (is_some p.tag)) (p.last - p.resume), mul-add (element_size leaf) (p.stop - p.first) (from_bool (is_some p.tag)))
 
 module _ (leaf : Bool) (b : List ℕ) (p : Plan) (key value : List ℕ) where
   abbrev xs : List Entry
@@ -86,14 +90,14 @@ module _ (leaf : Bool) (b : List ℕ) (p : Plan) (key value : List ℕ) where
 
   -- what the three writers of the table, and of the bodies, leave
   pub planned_table : {o₁ o₂ o₃ : List ℕ} (o : List ℕ) (w₁ w₂ d e₁ e₂ : ℕ)
-      → w₁ ≡ element_at leaf (p.stop - p.first) → w₂ ≡ element_at leaf (p.stop - p.first + flag_of p.some) → w₁ ≤ length o → w₂ ≤ length o
+      → w₁ ≡ element_at leaf (p.stop - p.first) → w₂ ≡ element_at leaf (p.stop - p.first + from_bool (is_some p.tag)) → w₁ ≤ length o → w₂ ≤ length o
       → e₁ ≡ d + length (bodies xs) → e₂ ≡ e₁ + length (bodies ys)
       → o₁ ≡ put_at o 32 (table leaf 32 d xs) → o₂ ≡ put_at o₁ w₁ (table leaf w₁ e₁ ys) → o₃ ≡ put_at o₂ w₂ (table leaf w₂ e₂ zs)
       → o₃ ≡ put_at o 32 (table leaf 32 d (planned leaf b p key value))
   unfolding planned
   planned_table o w₁ w₂ d e₁ e₂ hw₁ hw₂ h₁ h₂ he₁ he₂ q r s =
       let x : element_at leaf (length xs) ≡ w₁ = ap (element_at leaf) (length_from leaf b (p.stop - p.first) p.first) ∙ sym hw₁ in
-      let l : length (xs ++ ys) ≡ p.stop - p.first + flag_of p.some =
+      let l : length (xs ++ ys) ≡ p.stop - p.first + from_bool (is_some p.tag) =
       omega (arith, length-append xs ys, length_from leaf b (p.stop - p.first) p.first, fresh_length p key value) in
       let xy : element_at leaf (length (xs ++ ys)) ≡ w₂ = ap (element_at leaf) l ∙ sym hw₂ in
       let m = length_bodies_append xs ys in
@@ -109,35 +113,35 @@ module _ (leaf : Bool) (b : List ℕ) (p : Plan) (key value : List ℕ) where
       bodies_then o d e₂ (xs ++ ys) zs h (omega arith) (bodies_then o d e₁ xs ys (omega arith) he₁ q r) s
 
 -- ---- the plans of an insertion, of a replacement, of a removal, of a cut, and of a block with no source
-module _ (leaf : Bool) (b : List ℕ) (i tag n : ℕ) (key value : List ℕ) (hn : n ≡ count_of b) where
-  pub plan_insert : i ≤ n → planned leaf b (record { first = 0; stop = i; some = true; tag = tag; resume = i; last = n }) key value
+module _ (leaf : Bool) (b : List ℕ) (i n : ℕ) (key value : List ℕ) (hn : n ≡ count_of b) where
+  pub plan_insert : (tag : ℕ) → i ≤ n → planned leaf b (record { first = 0; stop = i; tag = Some tag; resume = i; last = n }) key value
       ≡ insert_at i (entry_with tag key value) (entries_of leaf b)
   unfolding planned
-  plan_insert h =
+  plan_insert tag h =
       rw (hn, range_first leaf b i (omega arith), range_last leaf b i (omega arith))
       (append_assoc (take i (entries_of leaf b)) (entry_with tag key value ∷ []) (drop i (entries_of leaf b)))
 
-  pub plan_replace : i < n → planned leaf b (record { first = 0; stop = i; some = true; tag = tag; resume = i + 1; last = n }) key value
+  pub plan_replace : (tag : ℕ) → i < n → planned leaf b (record { first = 0; stop = i; tag = Some tag; resume = i + 1; last = n }) key value
       ≡ replace_at i (entry_with tag key value) (entries_of leaf b)
   unfolding planned
-  plan_replace h =
+  plan_replace tag h =
       rw (hn, range_first leaf b i (omega arith), range_last leaf b (i + 1) (omega arith))
       (append_assoc (take i (entries_of leaf b)) (entry_with tag key value ∷ []) (drop (i + 1) (entries_of leaf b)))
 
-  pub plan_remove : i < n → planned leaf b (record { first = 0; stop = i; some = false; tag = tag; resume = i + 1; last = n }) key value
+  pub plan_remove : i < n → planned leaf b (record { first = 0; stop = i; tag = None; resume = i + 1; last = n }) key value
       ≡ remove_at i (entries_of leaf b)
   unfolding planned
   plan_remove h = rw (hn, range_first leaf b i (omega arith), range_last leaf b (i + 1) (omega arith), append-nil)
 
-pub plan_cut : (leaf : Bool) (b : List ℕ) (i j tag : ℕ) (key value : List ℕ) → i ≤ j → j ≤ count_of b
-    → planned leaf b (record { first = i; stop = j; some = false; tag = tag; resume = j; last = j }) key value ≡ cut_of i j (entries_of leaf b)
+pub plan_cut : (leaf : Bool) (b : List ℕ) (i j : ℕ) (key value : List ℕ) → i ≤ j → j ≤ count_of b
+    → planned leaf b (record { first = i; stop = j; tag = None; resume = j; last = j }) key value ≡ cut_of i j (entries_of leaf b)
 unfolding planned
-plan_cut leaf b i j tag key value h k = rw (range_end leaf b j j (omega arith), append-nil, append-nil) (range_part leaf b i j h k)
+plan_cut leaf b i j key value h k = rw (range_end leaf b j j (omega arith), append-nil, append-nil) (range_part leaf b i j h k)
 
-pub plan_new : (leaf : Bool) (b : List ℕ) (some : Bool) (tag : ℕ) (key value : List ℕ)
-    → planned leaf b (record { first = 0; stop = 0; some = some; tag = tag; resume = 0; last = 0 }) key value ≡ maybe some (entry_with tag key value)
+pub plan_new : (leaf : Bool) (b : List ℕ) (tag : Option ℕ) (key value : List ℕ)
+    → planned leaf b (record { first = 0; stop = 0; tag = tag; resume = 0; last = 0 }) key value ≡ maybe tag key value
 unfolding planned
-plan_new leaf b some tag key value = rw (range_end leaf b 0 0 (omega arith), append-nil)
+plan_new leaf b tag key value = rw (range_end leaf b 0 0 (omega arith), append-nil)
 
 -- 32 zeros are a block with no entries
 pub no_entries : (leaf : Bool) → SoundBlock leaf true (replicate 32 0)

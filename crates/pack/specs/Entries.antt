@@ -1,7 +1,7 @@
 -- What entries a block can hold: those that are read back from it, and those that keep it sound.
 -- Assumes nothing.
 use Rattle.std.specs.Prelude.{◌≡◌, Bool, true, false, List, [], ◌∷◌, ◌^◌, ◌<◌, length}
-use Rattle.field.specs.declared.order.Order.TheVariants.{Lower}
+use Rattle.std.specs.declared.cmp.Ordering.TheVariants.{Less}
 use Rattle.field.specs.Order.{order_of}
 use Rattle.page.specs.Layout.{Entry}
 use Rattle.page.specs.PageRules.{kind_bad}
@@ -24,4 +24,4 @@ Each F (e ∷ es) = F e × Each F es
 unfoldable pub RisingEntries : List Entry → Type 0
 RisingEntries [] = Unit {0}
 RisingEntries (e ∷ []) = Unit {0}
-RisingEntries (e ∷ f ∷ es) = (order_of e.key f.key ≡ Lower) × RisingEntries (f ∷ es)
+RisingEntries (e ∷ f ∷ es) = (order_of e.key f.key ≡ Less) × RisingEntries (f ∷ es)

@@ -1,7 +1,8 @@
 -- Which entries a new block has: a range of a source block's, a single new one or none, and another range of the source's.
 -- Assumes nothing.
-use Rattle.std.specs.Prelude.{Bool, true, false, List, [], ◌∷◌, ◌++◌, ℕ, ◌+◌, ◌-◌, ◌≤◌, take, drop}
-use Rattle.field.specs.Field.{flag_of}
+use Rattle.std.specs.Prelude.{Bool, List, [], ◌∷◌, ◌++◌, ℕ, ◌+◌, ◌-◌, ◌≤◌, take, drop, is_some, Some, None}
+use Rattle.std.specs.declared.option.Option.{Option}
+use Rattle.std.specs.Int.{from_bool}
 use Rattle.page.specs.Layout.{Entry, count_of, entries_from}
 use Rattle.pack.specs.declared.write.Plan.{Plan}
 
@@ -13,13 +14,14 @@ entry_with tag key value = record { tag = tag; key = key; value = value }
 abbrev pub range : Bool → List ℕ → ℕ → ℕ → List Entry
 range leaf b i j = entries_from leaf b (j - i) i
 
-abbrev pub maybe : Bool → Entry → List Entry
-maybe true e = e ∷ []
-maybe false e = []
+-- the entry of the tag that there is, or none
+abbrev pub maybe : Option ℕ → List ℕ → List ℕ → List Entry
+maybe (Some tag) key value = entry_with tag key value ∷ []
+maybe None key value = []
 
 -- the new entry, or none
 abbrev pub fresh : Plan → List ℕ → List ℕ → List Entry
-fresh p key value = maybe p.some (entry_with p.tag key value)
+fresh p key value = maybe p.tag key value
 
 unfoldable pub planned : Bool → List ℕ → Plan → List ℕ → List ℕ → List Entry
 planned leaf b p key value =
@@ -27,7 +29,7 @@ planned leaf b p key value =
 
 -- how many entries those are
 abbrev pub count_in : Plan → ℕ
-count_in p = p.stop - p.first + flag_of p.some + (p.last - p.resume)
+count_in p = p.stop - p.first + from_bool (is_some p.tag) + (p.last - p.resume)
 
 -- the plan's ranges lie within the block
 pub record Within (b : List ℕ) (p : Plan) : Type 0 where

@@ -18,8 +18,7 @@ pub fn cut(block: &[u8], leaf: bool, i: usize, j: usize, id: u64, p: usize, out:
     let plan = Plan {
         first: i,
         stop: j,
-        some: false,
-        tag: 0,
+        tag: None,
         resume: j,
         last: j,
     };

@@ -6,7 +6,7 @@ ghost use Rattle.page.specs.Layout.{element_size, element_at, tag_of, value_size
 ghost use Rattle.pack.specs.Pack.{element};
 ghost use Rattle.pack.specs.Plan.{entry_with};
 
-use field::number::{put_u64, wide};
+use field::number::put_u64;
 use field::run::copy;
 use page::layout::{
     BRANCH_SIZE, HEADER_SIZE, LEAF_SIZE, child, key_at, key_size, kind, value_size,
@@ -16,10 +16,7 @@ use page::layout::{
 pub fn element_size(leaf: bool) -> usize
     ensures { result ≡ element_size leaf }
 {
-    if leaf {
-        return LEAF_SIZE;
-    }
-    BRANCH_SIZE
+    if leaf { LEAF_SIZE } else { BRANCH_SIZE }
 }
 
 // Where element `i` starts.
@@ -39,7 +36,7 @@ pub fn tag(block: &[u8], leaf: bool, i: usize) -> u64
     ensures { result ≡ tag_of leaf block.now i }
 {
     if leaf {
-        return wide(kind(block, i));
+        return u64::from(kind(block, i));
     }
     child(block, i) as u64
 }
@@ -49,10 +46,7 @@ fn value_length(block: &[u8], leaf: bool, i: usize) -> usize
     requires { element_at leaf i + element_size leaf ≤ length block.now }
     ensures { result ≡ value_size leaf block.now i }
 {
-    if leaf {
-        return value_size(block, i);
-    }
-    0
+    if leaf { value_size(block, i) } else { 0 }
 }
 
 // The value of entry `i`, as a part of the block.

@@ -1,7 +1,7 @@
 // The writer: all elements, then all keys and values, then zeros to the block's end, and the header last.
-ghost use Rattle.std.specs.Prelude.{◌≡◌, true, ◌++◌, ◌+◌, ◌-◌, ◌*◌, ◌<◌, ◌≤◌, length, take, drop};
+ghost use Rattle.std.specs.Prelude.{◌≡◌, true, ◌++◌, ◌+◌, ◌-◌, ◌*◌, ◌<◌, ◌≤◌, is_some, length, take, drop};
 ghost use Rattle.field.specs.Run.{put_at};
-ghost use Rattle.field.specs.Field.{flag_of};
+ghost use Rattle.std.specs.Int.{from_bool};
 ghost use Rattle.page.specs.Layout.{count_of, element_size, element_at, key_at, value_end, entry_of};
 ghost use Rattle.page.specs.PageRules.{SoundBlock};
 ghost use Rattle.pack.specs.Pack.{block_size, type_number, header, element, body, table, bodies, pack};
@@ -13,13 +13,12 @@ use super::element::{
 use field::run::{clear, copy};
 use page::layout::{HEADER_SIZE, TYPE_BRANCH, TYPE_LEAF, key, key_at};
 
-// Which entries a new block has: those of a source block from `first` to `stop`, a new one with `tag` if `some`, and those from `resume` to `last`.
+// Which entries a new block has: those of a source block from `first` to `stop`, a new one if there is a `tag`, and those from `resume` to `last`.
 #[derive(Clone, Copy)]
 pub struct Plan {
     pub first: usize,
     pub stop: usize,
-    pub some: bool,
-    pub tag: u64,
+    pub tag: Option<u64>,
     pub resume: usize,
     pub last: usize,
 }
@@ -54,13 +53,11 @@ fn copy_table(
         × (out.new ≡ put_at out.old at (table leaf at d (range leaf block.now from to))) }
 {
     let size = element_size(leaf);
-    let mut i = from;
     let mut w = at;
     let mut e = d;
-    while i < to {
+    for i in from..to {
         e = copy_element(block, leaf, i, out, w, e);
         w += size;
-        i += 1;
     }
     e
 }
@@ -73,14 +70,12 @@ fn run_end(block: &[u8], leaf: bool, from: usize, to: usize) -> usize
         × (bodies (range leaf block.now from result)
         ≡ take (value_end leaf block.now (result - 1) - key_at leaf block.now from) (drop (key_at leaf block.now from) block.now)) }
 {
-    let mut i = from + 1;
     let mut end = body_end(block, leaf, from);
-    while i < to {
+    for i in from + 1..to {
         if key_at(block, leaf, i) != end {
             return i;
         }
         end = body_end(block, leaf, i);
-        i += 1;
     }
     to
 }
@@ -94,6 +89,7 @@ fn copy_bodies(block: &[u8], leaf: bool, from: usize, to: usize, out: &mut [u8],
 {
     let mut i = from;
     let mut w = at;
+    // No count: each step goes on by a whole run.
     while i < to {
         let j = run_end(block, leaf, i, to);
         let start = key_at(block, leaf, i);
@@ -103,16 +99,6 @@ fn copy_bodies(block: &[u8], leaf: bool, from: usize, to: usize, out: &mut [u8],
         i = j;
     }
     w
-}
-
-// One if there is a new entry, else none.
-fn count_one(some: bool) -> usize
-    ensures { result ≡ flag_of some }
-{
-    if some {
-        return 1;
-    }
-    0
 }
 
 // Puts the element of the new entry, if there is one, and says where its key and value are to end.
@@ -125,14 +111,14 @@ fn put_new(
     at: usize,
     d: usize,
 ) -> usize
-    requires { (at + element_size leaf * flag_of plan.some ≤ d) × (d + length (bodies (fresh plan key.now value.now)) ≤ length out.old) }
+    requires { (at + element_size leaf * from_bool (is_some plan.tag) ≤ d) × (d + length (bodies (fresh plan key.now value.now)) ≤ length out.old) }
     ensures { (result ≡ d + length (bodies (fresh plan key.now value.now)))
         × (out.new ≡ put_at out.old at (table leaf at d (fresh plan key.now value.now))) }
 {
-    if plan.some {
-        return put_element(leaf, plan.tag, key, value, out, at, d);
+    match plan.tag {
+        Some(tag) => put_element(leaf, tag, key, value, out, at, d),
+        None => d,
     }
-    d
 }
 
 // Puts the key and the value of the new entry, if there is one, and says where they end.
@@ -141,10 +127,10 @@ fn put_new_body(plan: Plan, key: &[u8], value: &[u8], out: &mut [u8], at: usize)
     ensures { (result ≡ at + length (bodies (fresh plan key.now value.now)))
         × (out.new ≡ put_at out.old at (bodies (fresh plan key.now value.now))) }
 {
-    if plan.some {
-        return put_body(key, value, out, at);
+    match plan.tag {
+        Some(_) => put_body(key, value, out, at),
+        None => at,
     }
-    at
 }
 
 // Puts the elements of the planned entries, whose keys and values are to stand from `d` on, and says where those are to end.
@@ -166,7 +152,7 @@ fn write_table(
 {
     let n = plan.stop - plan.first;
     let w = element_at(leaf, n);
-    let x = element_at(leaf, n + count_one(plan.some));
+    let x = element_at(leaf, n + usize::from(plan.tag.is_some()));
     let e = copy_table(block, leaf, plan.first, plan.stop, out, HEADER_SIZE, d);
     let f = put_new(leaf, plan, key, value, out, w, e);
     copy_table(block, leaf, plan.resume, plan.last, out, x, f)
@@ -196,10 +182,7 @@ fn write_bodies(
 fn type_number(leaf: bool) -> u64
     ensures { result ≡ type_number leaf }
 {
-    if leaf {
-        return TYPE_LEAF as u64;
-    }
-    TYPE_BRANCH as u64
+    u64::from(if leaf { TYPE_LEAF } else { TYPE_BRANCH })
 }
 
 // Puts the header at the start.
@@ -228,11 +211,11 @@ pub fn write(
     ensures { (result ≡ block_size leaf (planned leaf block.now plan key.now value.now) p)
         × (out.new ≡ pack leaf id (planned leaf block.now plan key.now value.now) p ++ drop result out.old) }
 {
-    let n = (plan.stop - plan.first) + count_one(plan.some) + (plan.last - plan.resume);
+    let n = (plan.stop - plan.first) + usize::from(plan.tag.is_some()) + (plan.last - plan.resume);
     let d = element_at(leaf, n);
     let end = write_table(block, leaf, plan, key, value, out, d);
     write_bodies(block, leaf, plan, key, value, out, d);
-    let pages = (end + 8 + (p - 1)) / p;
+    let pages = (end + 8).div_ceil(p);
     let size = pages * p;
     clear(out, end, size);
     put_header(out, leaf, id, n, pages - 1);

@@ -9,7 +9,7 @@ use native.Mathlib.Nat.{add-zero, zero-add, eq-or-lt_of_le}
 use native.Mathlib.Numerals.{add-one}
 use native.Mathlib.Omega.{arith}
 use lib.ListN.{length, get_or}
-use Rattle.field.specs.declared.order.Order.TheVariants.{Lower}
+use Rattle.std.specs.declared.cmp.Ordering.TheVariants.{Less}
 use Rattle.field.specs.Order.{order_of}
 use Rattle.field.proofs.OrderLaws.{lower_trans}
 use Rattle.page.specs.Layout.{Entry, count_of, key_of, entry_of, entries_from, entries_of}
@@ -40,10 +40,10 @@ module _ (leaf : Bool) (b : List ℕ) where
 
 -- ---- the keys of a sound block rise
 module _ (leaf empty_ok : Bool) (b : List ℕ) (sound : SoundBlock leaf empty_ok b) where
-  pub rising_far : (i j : ℕ) → i < j → j < count_of b → order_of (key_of leaf b i) (key_of leaf b j) ≡ Lower
+  pub rising_far : (i j : ℕ) → i < j → j < count_of b → order_of (key_of leaf b i) (key_of leaf b j) ≡ Less
   rising_far i zero l m = absurd (omega arith)
   rising_far i (suc j) l m =
-      let step : order_of (key_of leaf b j) (key_of leaf b (suc j)) ≡ Lower = rw add-one at (sound.rising j (omega arith)) in
+      let step : order_of (key_of leaf b j) (key_of leaf b (suc j)) ≡ Less = rw add-one at (sound.rising j (omega arith)) in
       let h : i ≤ j = omega arith in
       ⊎_elim
       (λ q. ap (λ (k : ℕ). order_of (key_of leaf b k) (key_of leaf b (suc j))) q ∙ step)
@@ -51,5 +51,5 @@ module _ (leaf empty_ok : Bool) (b : List ℕ) (sound : SoundBlock leaf empty_ok
       (eq-or-lt_of_le h)
 
   pub entries_rising : (d : Entry) (i j : ℕ) → i < j → j < count_of b
-      → order_of (get_or (entries_of leaf b) i d).key (get_or (entries_of leaf b) j d).key ≡ Lower
+      → order_of (get_or (entries_of leaf b) i d).key (get_or (entries_of leaf b) j d).key ≡ Less
   entries_rising d i j l m = rw (entry_at_lem leaf b d i (omega arith), entry_at_lem leaf b d j m) (rising_far i j l m)

@@ -1,4 +1,4 @@
--- A lent block: what its length and its header say, and that its check answers Sound for the sound ones and no others.
+-- A lent block: what its length and its header say, and that its check finds nothing in the sound ones and no others.
 -- 02, order 2: a common beginning above 0 is told with 6 alone (`lent_common`).
 -- Assumes nothing.
 use mathlib.Core.Path.{◌≡◌, refl, sym, ◌∙◌}
@@ -11,13 +11,15 @@ use native.Mathlib.Omega.{arith}
 use lib.Dec.{eqb}
 use lib.ListN.{length}
 use borrow.Author.Tests.{leb-true, eqb-true, not-false}
-use Rattle.page.specs.declared.rules.Verdict.TheVariants.{Sound, Breach}
 use Rattle.page.specs.Layout.{is_leaf}
-use Rattle.page.specs.PageRules.{check_of, length_bad, lent_header_bad, lent_check_of, SoundBlock}
+use Rattle.page.specs.PageRules.{check_of, length_bad, lent_header_bad, lent_check_of, SoundBlock, breach}
 use Rattle.field.specs.Sizes.{size_allowed}
 use Rattle.page.proofs.TestLaws.{eqb_same, and_both}
-use Rattle.page.proofs.RuleLaws.{breach_if_sound, check_sound, sound_check, sound_weaker}
+use Rattle.page.proofs.RuleLaws.{same_breach, breach_if_sound, check_sound, sound_check, sound_weaker}
 use Rattle.page.proofs.FirstBreach.{breach_common}
+use Rattle.std.specs.Prelude.{Ok, Err}
+use Rattle.field.specs.declared.refusal.Refusal.TheVariants.{Geometry, Header, KeyOrder}
+use Rattle.field.specs.declared.refusal.Refusal.{Refusal}
 
 -- a whole number of pages, and one at least
 pub record LengthGood (P : ℕ) (b : List ℕ) : Type 0 where
@@ -58,11 +60,11 @@ module _ (P : ℕ) (b : List ℕ) where
             omega arith
 
   -- the check, a step at a time
-  pub lent_length : length_bad P b ≡ true → lent_check_of P b ≡ Breach 1 0 0
+  pub lent_length : length_bad P b ≡ true → lent_check_of P b ≡ Err (breach Geometry 0 0)
   unfolding lent_check_of
   lent_length e = rw e
 
-  pub lent_header : length_bad P b ≡ false → lent_header_bad P b ≡ true → lent_check_of P b ≡ Breach 3 0 0
+  pub lent_header : length_bad P b ≡ false → lent_header_bad P b ≡ true → lent_check_of P b ≡ Err (breach Header 0 0)
   unfolding lent_check_of
   lent_header e f = rw (e, f)
 
@@ -70,7 +72,7 @@ module _ (P : ℕ) (b : List ℕ) where
   unfolding lent_check_of
   lent_rest e f = rw (e, f)
 
-  pub lent_iff : (lent_check_of P b ≡ Sound) ↔ ((length_bad P b ≡ false) × (lent_header_bad P b ≡ false) × SoundBlock (is_leaf b) (is_leaf b) b)
+  pub lent_iff : (lent_check_of P b ≡ Ok tt) ↔ ((length_bad P b ≡ false) × (lent_header_bad P b ≡ false) × SoundBlock (is_leaf b) (is_leaf b) b)
   unfolding lent_check_of
   lent_iff = (
     λ e.
@@ -81,7 +83,7 @@ module _ (P : ℕ) (b : List ℕ) where
   )
 
   -- what the calls on a lent block go on with
-  pub lent_sound : lent_check_of P b ≡ Sound → (32 ≤ length b) × SoundBlock (is_leaf b) true b
+  pub lent_sound : lent_check_of P b ≡ Ok tt → (32 ≤ length b) × SoundBlock (is_leaf b) true b
   lent_sound e =
       let h = lent_iff.0 e in
       let g = length_good h.0 in
@@ -90,13 +92,13 @@ module _ (P : ℕ) (b : List ℕ) where
       (omega arith, sound_weaker (is_leaf b) (is_leaf b) b h.2)
 
   -- what it tells of two keys
-  pub lent_common : (number i common : ℕ) → lent_check_of P b ≡ Breach number i common → 0 < common → number ≡ 6
-  lent_common number i common e l = go (length_bad P b) refl (lent_header_bad P b) refl
+  pub lent_common : (refusal : Refusal) (i common : ℕ) → lent_check_of P b ≡ Err (breach refusal i common) → 0 < common → refusal ≡ KeyOrder
+  lent_common refusal i common e l = go (length_bad P b) refl (lent_header_bad P b) refl
     where
-      told : (k : ℕ) → lent_check_of P b ≡ Breach k 0 0 → number ≡ 6
-      told k h = absurd (let f : Breach k 0 0 ≡ Breach number i common = sym h ∙ e in let z : 0 ≡ common = cc in omega arith)
+      told : (k : Refusal) → lent_check_of P b ≡ Err (breach k 0 0) → refusal ≡ KeyOrder
+      told k h = absurd (let f : Err (breach k 0 0) ≡ Err (breach refusal i common) = sym h ∙ e in let z = (same_breach f).2 in omega arith)
 
-      go : (t : Bool) → length_bad P b ≡ t → (u : Bool) → lent_header_bad P b ≡ u → number ≡ 6
-      go true t u h = told 1 (lent_length t)
-      go false t true h = told 3 (lent_header t h)
-      go false t false h = breach_common (is_leaf b) (is_leaf b) b number i common (sym (lent_rest t h) ∙ e) l
+      go : (t : Bool) → length_bad P b ≡ t → (u : Bool) → lent_header_bad P b ≡ u → refusal ≡ KeyOrder
+      go true t u h = told Geometry (lent_length t)
+      go false t true h = told Header (lent_header t h)
+      go false t false h = breach_common (is_leaf b) (is_leaf b) b refusal i common (sym (lent_rest t h) ∙ e) l

@@ -1,4 +1,4 @@
--- What a loop that looks for the first bad element has to know, what the code of each rule tests, and that a check answers Sound for the sound
+-- What a loop that looks for the first bad element has to know, what the code of each rule tests, and that a check finds nothing in the sound
 -- blocks and no others.
 -- Assumes nothing.
 use mathlib.Core.Path.{◌≡◌, refl, sym, ap, ◌∙◌}
@@ -11,44 +11,53 @@ use native.Mathlib.Omega.{arith}
 use lib.Dec.{ltb, eqb}
 use lib.ListN.{length}
 use borrow.Author.Tests.{le-ltb, ltb-false, lt-leb, leb-false, eq-eqb, ne_eqb, eqb-true, not-false}
-use Rattle.field.specs.declared.order.Order.{Order}
-use Rattle.field.specs.declared.order.Order.TheVariants.{Lower}
+use Rattle.std.specs.declared.cmp.Ordering.{Ordering}
+use Rattle.std.specs.declared.cmp.Ordering.TheVariants.{Less}
 use Rattle.field.specs.declared.order.Parting.{Parting}
-use Rattle.field.specs.Order.{order_of, parting_of, is_lower}
-use Rattle.field.proofs.OrderLaws.{is_lower_lem}
-use Rattle.page.specs.declared.rules.Verdict.{Verdict}
-use Rattle.page.specs.declared.rules.Verdict.TheVariants.{Sound, Breach}
+use Rattle.field.specs.Order.{order_of, parting_of}
+use Rattle.std.specs.Ordering.{is_lt}
+use Rattle.field.proofs.OrderLaws.{is_lt_lem}
 use Rattle.page.specs.Layout.{id_of, overflow_of, is_branch, count_of, element_size, element_at, pos_of, key_size, value_size, table_end, is_leaf, key_at, value_at, value_end, key_of}
-use Rattle.page.specs.PageRules.{header_bad, and_then, breach_if, no_common, first_bad, outside, table_bad, element_bad, key_bad, common_before, kind_bad, kind_bad_at, elements_of, check_of, SoundBlock}
+use Rattle.page.specs.PageRules.{header_bad, and_then, breach_if, no_common, first_bad, outside, table_bad, element_bad, key_bad, common_before, kind_bad, kind_bad_at, elements_of, check_of, SoundBlock, breach, Verdict}
 use Rattle.page.proofs.TestLaws.{ltb_same, and_both, or_neither}
+use Rattle.std.specs.Prelude.{Ok, Err}
+use Rattle.field.specs.declared.refusal.Refusal.TheVariants.{Table, Element, KeyOrder}
+use Rattle.field.specs.declared.refusal.Refusal.{Refusal}
+use Rattle.page.specs.declared.breach.Breach.{Breach}
 
 -- ---- the first bad element, from i on and below n
-module _ (bad : ℕ → Bool) (common : ℕ → ℕ) (number n i : ℕ) where
-  pub bad_skip : i < n → bad i ≡ false → first_bad bad common number (n - i) i ≡ first_bad bad common number (n - (i + 1)) (i + 1)
+-- two breaches that are the same have all in common
+pub same_breach : {r s : Refusal} {i j c d : ℕ} → ◌≡◌ {A = Verdict} (Err (breach r i c)) (Err (breach s j d)) → (r ≡ s) × (i ≡ j) × (c ≡ d)
+same_breach {r} {s} {i} {j} {c} {d} e =
+    let b : breach r i c ≡ breach s j d = cc in
+    (ap (λ (x : Breach). x.refusal) b, ap (λ (x : Breach). x.element) b, ap (λ (x : Breach). x.common) b)
+
+module _ (bad : ℕ → Bool) (common : ℕ → ℕ) (refusal : Refusal) (n i : ℕ) where
+  pub bad_skip : i < n → bad i ≡ false → first_bad bad common refusal (n - i) i ≡ first_bad bad common refusal (n - (i + 1)) (i + 1)
   unfolding first_bad
   bad_skip l h = let e : n - i ≡ suc (n - (i + 1)) = omega arith in rw (e, h)
 
-  pub bad_here : i < n → bad i ≡ true → first_bad bad common number (n - i) i ≡ Breach number i (common i)
+  pub bad_here : i < n → bad i ≡ true → first_bad bad common refusal (n - i) i ≡ Err (breach refusal i (common i))
   unfolding first_bad
   bad_here l h = let e : n - i ≡ suc (n - (i + 1)) = omega arith in rw (e, h)
 
-  pub bad_none : n ≤ i → first_bad bad common number (n - i) i ≡ Sound
+  pub bad_none : n ≤ i → first_bad bad common refusal (n - i) i ≡ Ok tt
   unfolding first_bad
   bad_none l = let e : n - i ≡ 0 = omega arith in rw e
 
--- it is Sound where no element is bad, and only there
-pub none_bad : (bad : ℕ → Bool) (common : ℕ → ℕ) (number k i : ℕ) → ((j : ℕ) → i ≤ j → j < i + k → bad j ≡ false) → first_bad bad common number k i ≡ Sound
+-- it finds nothing where no element is bad, and only there
+pub none_bad : (bad : ℕ → Bool) (common : ℕ → ℕ) (refusal : Refusal) (k i : ℕ) → ((j : ℕ) → i ≤ j → j < i + k → bad j ≡ false) → first_bad bad common refusal k i ≡ Ok tt
 unfolding first_bad
-none_bad bad common number zero i h = refl
-none_bad bad common number (suc k) i h = rw (h i (omega arith) (omega arith)) (none_bad bad common number k (i + 1) (λ j l m. h j (omega arith) (omega arith)))
+none_bad bad common refusal zero i h = refl
+none_bad bad common refusal (suc k) i h = rw (h i (omega arith) (omega arith)) (none_bad bad common refusal k (i + 1) (λ j l m. h j (omega arith) (omega arith)))
 
-pub bad_none_at : (bad : ℕ → Bool) (common : ℕ → ℕ) (number k i : ℕ) → first_bad bad common number k i ≡ Sound → (j : ℕ) → i ≤ j → j < i + k → bad j ≡ false
+pub bad_none_at : (bad : ℕ → Bool) (common : ℕ → ℕ) (refusal : Refusal) (k i : ℕ) → first_bad bad common refusal k i ≡ Ok tt → (j : ℕ) → i ≤ j → j < i + k → bad j ≡ false
 unfolding first_bad
-bad_none_at bad common number zero i e j l m = absurd (omega arith)
-bad_none_at bad common number (suc k) i e j l m = go (bad_none_at bad common number k (i + 1)) (bad i) refl
+bad_none_at bad common refusal zero i e j l m = absurd (omega arith)
+bad_none_at bad common refusal (suc k) i e j l m = go (bad_none_at bad common refusal k (i + 1)) (bad i) refl
   where
-    go : (first_bad bad common number k (i + 1) ≡ Sound → (j : ℕ) → i + 1 ≤ j → j < i + 1 + k → bad j ≡ false) → (t : Bool) → bad i ≡ t → bad j ≡ false
-    go ih true p = absurd (let f : Breach number i (common i) ≡ Sound = rw p at e in let z : ◌≡◌ {A = ℕ} 0 1 = cc in omega arith)
+    go : (first_bad bad common refusal k (i + 1) ≡ Ok tt → (j : ℕ) → i + 1 ≤ j → j < i + 1 + k → bad j ≡ false) → (t : Bool) → bad i ≡ t → bad j ≡ false
+    go ih true p = absurd (let f : Err (breach refusal i (common i)) ≡ Ok tt = rw p at e in let z : ◌≡◌ {A = ℕ} 0 1 = cc in omega arith)
     go ih false p = ⊎_elim (λ q. ap bad (sym q) ∙ p) (λ q. ih (rw p at e) j (omega arith) (omega arith)) (eq-or-lt_of_le l)
 
 -- ---- what the code of each rule tests
@@ -81,9 +90,9 @@ element_test leaf b i end pos key value out kind p q r s o k = rw (o, k, p, q, r
 
 -- rule 7, by what a comparison of the key before and its own answered
 module _ (leaf : Bool) (b : List ℕ) (i : ℕ) (p : Parting) (e : p ≡ parting_of (key_of leaf b (i - 1)) (key_of leaf b i)) where
-  pub key_test : (t : Bool) → t ≡ is_lower p.order → key_bad leaf b i ≡ not t
+  pub key_test : (t : Bool) → t ≡ is_lt p.order → key_bad leaf b i ≡ not t
   unfolding key_bad
-  key_test t h = ap not (sym (h ∙ ap (λ (q : Parting). is_lower q.order) e))
+  key_test t h = ap not (sym (h ∙ ap (λ (q : Parting). is_lt q.order) e))
 
   pub key_common : p.common ≡ common_before leaf b i
   key_common = ap (λ (q : Parting). q.common) e
@@ -119,15 +128,15 @@ kind_iff kind size = (λ e. there (eqb kind 0) refl e, ⊎_elim (λ e. rw (eq-eq
     back k s = rw (k, s)
 
 -- ---- verdicts taken apart
-pub and_sound : (v w : Verdict) → and_then v w ≡ Sound → (v ≡ Sound) × (w ≡ Sound)
-and_sound Sound w e = (refl, e)
-and_sound (Breach r i c) w e = absurd (let z : ◌≡◌ {A = ℕ} 0 1 = cc in omega arith)
+pub and_sound : (v w : Verdict) → and_then v w ≡ Ok tt → (v ≡ Ok tt) × (w ≡ Ok tt)
+and_sound (Ok u) w e = (refl, e)
+and_sound (Err b) w e = absurd (let z : ◌≡◌ {A = ℕ} 0 1 = cc in omega arith)
 
-pub breach_if_sound : (bad : Bool) (number : ℕ) (v : Verdict) → breach_if bad number v ≡ Sound → (bad ≡ false) × (v ≡ Sound)
-breach_if_sound true number v e = absurd (let z : ◌≡◌ {A = ℕ} 0 1 = cc in omega arith)
-breach_if_sound false number v e = (refl, e)
+pub breach_if_sound : (bad : Bool) (refusal : Refusal) (v : Verdict) → breach_if bad refusal v ≡ Ok tt → (bad ≡ false) × (v ≡ Ok tt)
+breach_if_sound true refusal v e = absurd (let z : ◌≡◌ {A = ℕ} 0 1 = cc in omega arith)
+breach_if_sound false refusal v e = (refl, e)
 
--- ---- a check answers Sound for the sound blocks alone
+-- ---- a check finds nothing in the sound blocks alone
 module _ (leaf empty_ok : Bool) (b : List ℕ) where
   pub table_good : table_bad leaf empty_ok b ≡ false → (count_of b ≡ 0 → empty_ok ≡ true) × (table_end leaf b ≤ length b)
   unfolding table_bad
@@ -156,14 +165,14 @@ module _ (leaf : Bool) (b : List ℕ) (i : ℕ) where
   good_element p q k = rw (le-ltb (key_at leaf b i) (table_end leaf b) p, le-ltb (length b) (value_end leaf b i) q, k)
 
 module _ (leaf empty_ok : Bool) (b : List ℕ) where
-  pub check_sound : check_of leaf empty_ok b ≡ Sound → SoundBlock leaf empty_ok b
+  pub check_sound : check_of leaf empty_ok b ≡ Ok tt → SoundBlock leaf empty_ok b
   unfolding check_of key_bad
   check_sound e =
       let first = breach_if_sound _ _ _ e in
       let table = table_good leaf empty_ok b first.0 in
       let rest = and_sound _ _ first.1 in
       let good : (i : ℕ) → i < count_of b → (table_end leaf b ≤ key_at leaf b i) × (value_end leaf b i ≤ length b) × (kind_bad_at leaf b i ≡ false) =
-      λ i l. element_good leaf b i (bad_none_at (element_bad leaf b) no_common 5 (count_of b) 0 rest.0 i (omega arith) (omega arith)) in
+      λ i l. element_good leaf b i (bad_none_at (element_bad leaf b) no_common Element (count_of b) 0 rest.0 i (omega arith) (omega arith)) in
       record {
         filled = table.0;
         fits = table.1;
@@ -172,23 +181,23 @@ module _ (leaf empty_ok : Bool) (b : List ℕ) where
         kinds = λ i l. (good i l).2;
         rising = λ i l.
             let same : i + 1 - 1 ≡ i = omega arith in
-            let o : order_of (key_of leaf b (i + 1 - 1)) (key_of leaf b (i + 1)) ≡ Lower = is_lower_lem _ (not-false _ (bad_none_at (key_bad leaf b) (common_before leaf b) 6 (count_of b - 1) 1 rest.1 (i + 1) (omega arith) (omega arith))) in
+            let o : order_of (key_of leaf b (i + 1 - 1)) (key_of leaf b (i + 1)) ≡ Less = is_lt_lem _ (not-false _ (bad_none_at (key_bad leaf b) (common_before leaf b) KeyOrder (count_of b - 1) 1 rest.1 (i + 1) (omega arith) (omega arith))) in
             rw same at o;
       }
 
-  pub sound_check : SoundBlock leaf empty_ok b → check_of leaf empty_ok b ≡ Sound
+  pub sound_check : SoundBlock leaf empty_ok b → check_of leaf empty_ok b ≡ Ok tt
   unfolding check_of key_bad
   sound_check s =
       rw (
         good_table leaf empty_ok b s.filled s.fits,
-        none_bad (element_bad leaf b) no_common 5 (count_of b) 0 (λ j l m. good_element leaf b j (s.after j (omega arith)) (s.within j (omega arith)) (s.kinds j (omega arith))),
+        none_bad (element_bad leaf b) no_common Element (count_of b) 0 (λ j l m. good_element leaf b j (s.after j (omega arith)) (s.within j (omega arith)) (s.kinds j (omega arith))),
       )
-      (none_bad (key_bad leaf b) (common_before leaf b) 6 (count_of b - 1) 1 (λ j l m. ap (λ (o : Order). not (is_lower o)) (before j l (omega arith))))
+      (none_bad (key_bad leaf b) (common_before leaf b) KeyOrder (count_of b - 1) 1 (λ j l m. ap (λ (o : Ordering). not (is_lt o)) (before j l (omega arith))))
     where
-      before : (j : ℕ) → 1 ≤ j → j < count_of b → order_of (key_of leaf b (j - 1)) (key_of leaf b j) ≡ Lower
+      before : (j : ℕ) → 1 ≤ j → j < count_of b → order_of (key_of leaf b (j - 1)) (key_of leaf b j) ≡ Less
       before j l m = let e : j - 1 + 1 ≡ j = omega arith in rw e at (s.rising (j - 1) (omega arith))
 
-  pub sound_iff : (check_of leaf empty_ok b ≡ Sound) ↔ SoundBlock leaf empty_ok b
+  pub sound_iff : (check_of leaf empty_ok b ≡ Ok tt) ↔ SoundBlock leaf empty_ok b
   sound_iff = (check_sound, sound_check)
 
 -- sound, and so sound where a count of 0 is allowed
@@ -198,7 +207,7 @@ sound_weaker leaf empty_ok b s =
 
 -- ---- the check, a rule at a time
 module _ (leaf empty_ok : Bool) (b : List ℕ) where
-  pub check_table : table_bad leaf empty_ok b ≡ true → check_of leaf empty_ok b ≡ Breach 4 0 0
+  pub check_table : table_bad leaf empty_ok b ≡ true → check_of leaf empty_ok b ≡ Err (breach Table 0 0)
   unfolding check_of
   check_table e = rw e
 
@@ -206,14 +215,14 @@ module _ (leaf empty_ok : Bool) (b : List ℕ) where
   unfolding check_of
   check_elements_lem t = rw t
 
-  pub check_stops : table_bad leaf empty_ok b ≡ false → (r i c : ℕ) → first_bad (element_bad leaf b) no_common 5 (count_of b) 0 ≡ Breach r i c → check_of leaf empty_ok b ≡ Breach r i c
+  pub check_stops : table_bad leaf empty_ok b ≡ false → (r : Refusal) (i c : ℕ) → first_bad (element_bad leaf b) no_common Element (count_of b) 0 ≡ Err (breach r i c) → check_of leaf empty_ok b ≡ Err (breach r i c)
   unfolding check_of
   check_stops t r i c e = rw (t, e)
 
-  pub check_goes_on : table_bad leaf empty_ok b ≡ false → first_bad (element_bad leaf b) no_common 5 (count_of b) 0 ≡ Sound → check_of leaf empty_ok b ≡ first_bad (key_bad leaf b) (common_before leaf b) 6 (count_of b - 1) 1
+  pub check_goes_on : table_bad leaf empty_ok b ≡ false → first_bad (element_bad leaf b) no_common Element (count_of b) 0 ≡ Ok tt → check_of leaf empty_ok b ≡ first_bad (key_bad leaf b) (common_before leaf b) KeyOrder (count_of b - 1) 1
   unfolding check_of
   check_goes_on t e = rw (t, e)
 
 -- rule 6 passed, each key lies in the block
-pub within_all : (leaf : Bool) (b : List ℕ) → first_bad (element_bad leaf b) no_common 5 (count_of b) 0 ≡ Sound → (i : ℕ) → i < count_of b → value_at leaf b i ≤ length b
-within_all leaf b e i l = let g = element_good leaf b i (bad_none_at (element_bad leaf b) no_common 5 (count_of b) 0 e i (omega arith) (omega arith)) in omega arith
+pub within_all : (leaf : Bool) (b : List ℕ) → first_bad (element_bad leaf b) no_common Element (count_of b) 0 ≡ Ok tt → (i : ℕ) → i < count_of b → value_at leaf b i ≤ length b
+within_all leaf b e i l = let g = element_good leaf b i (bad_none_at (element_bad leaf b) no_common Element (count_of b) 0 e i (omega arith) (omega arith)) in omega arith

@@ -8,8 +8,8 @@ use Prim.Native.Nat.{ℕ, zero, suc, ◌+◌, ◌-◌, ◌≤◌, ◌<◌}
 use native.Mathlib.Nat.{sub-zero, zero-add, eq-or-lt_of_le}
 use native.Mathlib.Numerals.{add-one}
 use native.Mathlib.Omega.{arith}
-use Rattle.field.specs.declared.order.Order.{Order}
-use Rattle.field.specs.declared.order.Order.TheVariants.{Lower, Equal, Higher}
+use Rattle.std.specs.declared.cmp.Ordering.{Ordering}
+use Rattle.std.specs.declared.cmp.Ordering.TheVariants.{Less, Equal, Greater}
 use Rattle.field.specs.Order.{order_of}
 use Rattle.page.proofs.EntryLaws.{rising_far}
 use Rattle.field.proofs.OrderLaws.{order_refl, order_equal, lower_trans, lower_iff}
@@ -20,7 +20,7 @@ use Rattle.page.specs.Search.{place_at, scan_from, place_of}
 
 -- ---- the scan
 module _ (leaf : Bool) (b key : List ℕ) (n : ℕ) where
-  scan_skip : (i : ℕ) → i < n → order_of (key_of leaf b i) key ≡ Lower → scan_from leaf b key (n - i) i ≡ scan_from leaf b key (n - (i + 1)) (i + 1)
+  scan_skip : (i : ℕ) → i < n → order_of (key_of leaf b i) key ≡ Less → scan_from leaf b key (n - i) i ≡ scan_from leaf b key (n - (i + 1)) (i + 1)
   unfolding scan_from
   scan_skip i l h = let e : n - i ≡ suc (n - (i + 1)) = omega arith in rw (e, h)
 
@@ -28,7 +28,7 @@ module _ (leaf : Bool) (b key : List ℕ) (n : ℕ) where
   unfolding scan_from
   scan_equal i l h = let e : n - i ≡ suc (n - (i + 1)) = omega arith in rw (e, h)
 
-  scan_higher : (i : ℕ) → i < n → order_of (key_of leaf b i) key ≡ Higher → scan_from leaf b key (n - i) i ≡ record { at = i - 1; found = false }
+  scan_higher : (i : ℕ) → i < n → order_of (key_of leaf b i) key ≡ Greater → scan_from leaf b key (n - i) i ≡ record { at = i - 1; found = false }
   unfolding scan_from
   scan_higher i l h = let e : n - i ≡ suc (n - (i + 1)) = omega arith in rw (e, h)
 
@@ -36,17 +36,17 @@ module _ (leaf : Bool) (b key : List ℕ) (n : ℕ) where
   unfolding scan_from
   scan-end i l = let e : n - i ≡ 0 = omega arith in rw e
 
-  scan_to : (m : ℕ) → m ≤ n → ((k : ℕ) → k < m → order_of (key_of leaf b k) key ≡ Lower) → scan_from leaf b key n 0 ≡ scan_from leaf b key (n - m) m
+  scan_to : (m : ℕ) → m ≤ n → ((k : ℕ) → k < m → order_of (key_of leaf b k) key ≡ Less) → scan_from leaf b key n 0 ≡ scan_from leaf b key (n - m) m
   scan_to zero l h = rw (sub-zero n)
   scan_to (suc m) l h = scan_to m (omega arith) (λ k q. h k (omega arith)) ∙ rw add-one at (scan_skip m (omega arith) (h m (omega arith)))
 
 -- where the keys before m are lower and the key of m is equal, or those from m on are higher
-module _ (leaf : Bool) (b key : List ℕ) (n : ℕ) (all : n ≡ count_of b) (m : ℕ) (before : (k : ℕ) → k < m → order_of (key_of leaf b k) key ≡ Lower) where
+module _ (leaf : Bool) (b key : List ℕ) (n : ℕ) (all : n ≡ count_of b) (m : ℕ) (before : (k : ℕ) → k < m → order_of (key_of leaf b k) key ≡ Less) where
   pub index_found : m < n → order_of (key_of leaf b m) key ≡ Equal → place_of leaf b key ≡ record { at = m; found = true }
   unfolding place_of
   index_found l e = rw (sym all) (scan_to leaf b key n m (omega arith) before ∙ scan_equal leaf b key n m l e)
 
-  pub index_missing : m ≤ n → ((k : ℕ) → m ≤ k → k < n → order_of (key_of leaf b k) key ≡ Higher) → place_of leaf b key ≡ record { at = m - 1; found = false }
+  pub index_missing : m ≤ n → ((k : ℕ) → m ≤ k → k < n → order_of (key_of leaf b k) key ≡ Greater) → place_of leaf b key ≡ record { at = m - 1; found = false }
   unfolding place_of
   index_missing l g =
       rw (sym all)
@@ -55,10 +55,10 @@ module _ (leaf : Bool) (b key : List ℕ) (n : ℕ) (all : n ≡ count_of b) (m 
 
 -- ---- a sound block's keys
 module _ (leaf empty_ok : Bool) (b : List ℕ) (sound : SoundBlock leaf empty_ok b) (key : List ℕ) (mid : ℕ) (l : mid < count_of b) where
-  pub before_equal : order_of (key_of leaf b mid) key ≡ Equal → (k : ℕ) → k < mid → order_of (key_of leaf b k) key ≡ Lower
+  pub before_equal : order_of (key_of leaf b mid) key ≡ Equal → (k : ℕ) → k < mid → order_of (key_of leaf b k) key ≡ Less
   before_equal e k q = rw (order_equal (key_of leaf b mid) key e) at (rising_far leaf empty_ok b sound k mid q l)
 
-  pub up_to_lower : order_of (key_of leaf b mid) key ≡ Lower → (k : ℕ) → k < mid + 1 → order_of (key_of leaf b k) key ≡ Lower
+  pub up_to_lower : order_of (key_of leaf b mid) key ≡ Less → (k : ℕ) → k < mid + 1 → order_of (key_of leaf b k) key ≡ Less
   up_to_lower e k q =
       let h : k ≤ mid = omega arith in
       ⊎_elim
@@ -66,9 +66,9 @@ module _ (leaf empty_ok : Bool) (b : List ℕ) (sound : SoundBlock leaf empty_ok
       (λ r. lower_trans (key_of leaf b k) (key_of leaf b mid) key (rising_far leaf empty_ok b sound k mid r l) e)
       (eq-or-lt_of_le h)
 
-  pub from_higher_on : order_of (key_of leaf b mid) key ≡ Higher → (k : ℕ) → mid ≤ k → k < count_of b → order_of (key_of leaf b k) key ≡ Higher
+  pub from_higher_on : order_of (key_of leaf b mid) key ≡ Greater → (k : ℕ) → mid ≤ k → k < count_of b → order_of (key_of leaf b k) key ≡ Greater
   from_higher_on e k q m =
-      let f : order_of key (key_of leaf b mid) ≡ Lower = (lower_iff key (key_of leaf b mid)).1 e in
+      let f : order_of key (key_of leaf b mid) ≡ Less = (lower_iff key (key_of leaf b mid)).1 e in
       ⊎_elim
       (λ r. ap (λ (j : ℕ). order_of (key_of leaf b j) key) (sym r) ∙ e)
       (λ r. (lower_iff key (key_of leaf b k)).0 (lower_trans key (key_of leaf b mid) (key_of leaf b k) f (rising_far leaf empty_ok b sound mid k r m)))
@@ -76,9 +76,9 @@ module _ (leaf empty_ok : Bool) (b : List ℕ) (sound : SoundBlock leaf empty_ok
 
 -- ---- what the scan answers, for any block: the first key that is not lower decides
 pub data Scanned (leaf : Bool) (b key : List ℕ) (p : Place) : Type 0 where
-  here : (m : ℕ) → m < count_of b → ((k : ℕ) → k < m → order_of (key_of leaf b k) key ≡ Lower) → order_of (key_of leaf b m) key ≡ Equal
+  here : (m : ℕ) → m < count_of b → ((k : ℕ) → k < m → order_of (key_of leaf b k) key ≡ Less) → order_of (key_of leaf b m) key ≡ Equal
       → p ≡ record { at = m; found = true } → Scanned leaf b key p
-  nowhere : (m : ℕ) → m ≤ count_of b → ((k : ℕ) → k < m → order_of (key_of leaf b k) key ≡ Lower) → (m < count_of b → order_of (key_of leaf b m) key ≡ Higher)
+  nowhere : (m : ℕ) → m ≤ count_of b → ((k : ℕ) → k < m → order_of (key_of leaf b k) key ≡ Less) → (m < count_of b → order_of (key_of leaf b m) key ≡ Greater)
       → p ≡ record { at = m - 1; found = false } → Scanned leaf b key p
 
 not_both : (p : Place) (i j : ℕ) → p ≡ record { at = i; found = true } → p ≡ record { at = j; found = false } → ⊥
@@ -88,19 +88,19 @@ not_both p i j e f =
     omega arith
 
 module _ (leaf : Bool) (b key : List ℕ) where
-  scanned_from : (k i : ℕ) → i + k ≡ count_of b → ((j : ℕ) → j < i → order_of (key_of leaf b j) key ≡ Lower) → Scanned leaf b key (scan_from leaf b key k i)
+  scanned_from : (k i : ℕ) → i + k ≡ count_of b → ((j : ℕ) → j < i → order_of (key_of leaf b j) key ≡ Less) → Scanned leaf b key (scan_from leaf b key k i)
   unfolding scan_from
   scanned_from zero i e h = nowhere i (omega arith) h (λ l. absurd (omega arith)) refl
   scanned_from (suc k) i e h = go (scanned_from k (i + 1) (omega arith)) (order_of (key_of leaf b i) key) refl
     where
-      go : (((j : ℕ) → j < i + 1 → order_of (key_of leaf b j) key ≡ Lower) → Scanned leaf b key (scan_from leaf b key k (i + 1)))
-          → (o : Order) → order_of (key_of leaf b i) key ≡ o → Scanned leaf b key (place_at (order_of (key_of leaf b i) key) i (scan_from leaf b key k (i + 1)))
-      go ih Lower q = rw q (ih (λ j l. ⊎_elim (λ r. ap (λ (n : ℕ). order_of (key_of leaf b n) key) r ∙ q) (λ r. h j r) (eq-or-lt_of_le (below j l))))
+      go : (((j : ℕ) → j < i + 1 → order_of (key_of leaf b j) key ≡ Less) → Scanned leaf b key (scan_from leaf b key k (i + 1)))
+          → (o : Ordering) → order_of (key_of leaf b i) key ≡ o → Scanned leaf b key (place_at (order_of (key_of leaf b i) key) i (scan_from leaf b key k (i + 1)))
+      go ih Less q = rw q (ih (λ j l. ⊎_elim (λ r. ap (λ (n : ℕ). order_of (key_of leaf b n) key) r ∙ q) (λ r. h j r) (eq-or-lt_of_le (below j l))))
         where
           below : (j : ℕ) → j < i + 1 → j ≤ i
           below j l = omega arith
       go ih Equal q = rw q (here i (omega arith) h q refl)
-      go ih Higher q = rw q (nowhere i (omega arith) h (λ l. q) refl)
+      go ih Greater q = rw q (nowhere i (omega arith) h (λ l. q) refl)
 
   pub scanned : Scanned leaf b key (place_of leaf b key)
   unfolding place_of
@@ -121,8 +121,8 @@ pub record Missing (leaf : Bool) (b key : List ℕ) (at : ℕ) : Type 0 where
   pub place : ℕ
   pub upto : place ≤ count_of b
   pub told : at ≡ place - 1
-  pub lower : (k : ℕ) → k < place → order_of (key_of leaf b k) key ≡ Lower
-  pub higher : (k : ℕ) → place ≤ k → k < count_of b → order_of (key_of leaf b k) key ≡ Higher
+  pub lower : (k : ℕ) → k < place → order_of (key_of leaf b k) key ≡ Less
+  pub higher : (k : ℕ) → place ≤ k → k < count_of b → order_of (key_of leaf b k) key ≡ Greater
 
 module _ (leaf empty_ok : Bool) (b : List ℕ) (sound : SoundBlock leaf empty_ok b) (key : List ℕ) where
   -- a key that is there is found at its index
@@ -164,7 +164,7 @@ module _ (leaf empty_ok : Bool) (b : List ℕ) (sound : SoundBlock leaf empty_ok
       back none (nowhere m l h g p) = ap (λ (x : Place). x.found) p
 
   -- the place that is told is 0, or its key is lower
-  pub missing_lower : (at : ℕ) → place_of leaf b key ≡ record { at = at; found = false } → (at ≡ 0) ⊎ (order_of (key_of leaf b at) key ≡ Lower)
+  pub missing_lower : (at : ℕ) → place_of leaf b key ≡ record { at = at; found = false } → (at ≡ 0) ⊎ (order_of (key_of leaf b at) key ≡ Less)
   missing_lower at e =
       let m = missing_at at e in
       let t = m.told in
@@ -174,7 +174,7 @@ module _ (leaf empty_ok : Bool) (b : List ℕ) (sound : SoundBlock leaf empty_ok
       from_zero n = omega arith
 
   -- and every later key is higher
-  pub missing_higher : (at : ℕ) → place_of leaf b key ≡ record { at = at; found = false } → (k : ℕ) → at < k → k < count_of b → order_of (key_of leaf b k) key ≡ Higher
+  pub missing_higher : (at : ℕ) → place_of leaf b key ≡ record { at = at; found = false } → (k : ℕ) → at < k → k < count_of b → order_of (key_of leaf b k) key ≡ Greater
   missing_higher at e k l n =
       let m = missing_at at e in
       let t = m.told in

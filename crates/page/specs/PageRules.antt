@@ -1,38 +1,49 @@
 -- 01, "A sound page", as 02's order 2 amends it: rules 4 to 7, and the first breach in 01's order: by rule, and within a rule by element.
 -- All sums are of natural numbers. Assumes nothing.
-use Rattle.std.specs.Prelude.{◌≡◌, Bool, true, false, not, cond, ◌&&◌, ◌||◌, List, ℕ, zero, suc, ◌+◌, ◌-◌, ◌*◌, ◌%◌, ◌≤◌, ◌<◌, leb, ltb, eqb, length, take, drop}
-use Rattle.field.specs.declared.order.Order.TheVariants.{Lower}
-use Rattle.field.specs.Order.{order_of, common_of, is_lower}
+use Rattle.std.specs.Prelude.{◌≡◌, Bool, true, false, not, cond, ◌&&◌, ◌||◌, List, ℕ, zero, suc, ◌+◌, ◌-◌, ◌*◌, ◌%◌, ◌≤◌, ◌<◌, leb, ltb, eqb, length, take, drop, Ok, Err}
+use Rattle.std.specs.declared.result.Result.{Result}
+use Rattle.std.specs.declared.cmp.Ordering.TheVariants.{Less}
+use Rattle.field.specs.Order.{order_of, common_of}
+use Rattle.std.specs.Ordering.{is_lt}
 use Rattle.field.specs.Sizes.{size_allowed}
-use Rattle.page.specs.declared.rules.Verdict.{Verdict}
-use Rattle.page.specs.declared.rules.Verdict.TheVariants.{Sound, Breach}
+use Rattle.field.specs.declared.refusal.Refusal.{Refusal}
+use Rattle.field.specs.declared.refusal.Refusal.TheVariants.{Geometry, Header, Table, Element, KeyOrder}
+use Rattle.page.specs.declared.breach.Breach.{Breach}
 use Rattle.page.specs.Layout.{id_of, count_of, overflow_of, is_branch, is_leaf, kind_of, value_size, key_at, value_end, table_end, key_of}
 
 -- ---- rule by rule
 
--- a later rule is tried only where the earlier one found nothing
-abbrev pub and_then : Verdict → Verdict → Verdict
-and_then Sound v = v
-and_then (Breach number element common) v = Breach number element common
+-- a breach, by its cause, the element and the length of a common beginning
+abbrev pub breach : Refusal → ℕ → ℕ → Breach
+breach refusal element common = record { refusal = refusal; element = element; common = common }
+
+-- what a check answers
+abbrev pub Verdict : Type 0
+Verdict = Result Unit Breach
+
+-- what comes after a check, which is tried only where the check found nothing: a later rule, or an answer
+abbrev pub and_then : {A : Type 0} → Verdict → Result A Breach → Result A Breach
+and_then (Ok u) answer = answer
+and_then (Err b) answer = Err b
 
 -- whether there is no breach
 abbrev pub is_sound : Verdict → Bool
-is_sound Sound = true
-is_sound (Breach number element common) = false
+is_sound (Ok u) = true
+is_sound (Err b) = false
 
--- an answer after a check: a breach refuses with its number, element and common beginning, and else the answer stands
-abbrev pub after_check : {A : Type 0} → Verdict → (ℕ → ℕ → ℕ → A) → A → A
-after_check Sound refused answer = answer
-after_check (Breach number element common) refused answer = refused number element common
+-- an answer after a check: a breach refuses with its cause, element and common beginning, and else the answer stands
+abbrev pub after_check : {A : Type 0} → Verdict → (Refusal → ℕ → ℕ → A) → A → A
+after_check (Ok u) refused answer = answer
+after_check (Err b) refused answer = refused b.refusal b.element b.common
 
 -- a breach that names no element, where there is one
-abbrev pub breach_if : Bool → ℕ → Verdict → Verdict
-breach_if bad number v = cond bad (Breach number 0 0) v
+abbrev pub breach_if : Bool → Refusal → Verdict → Verdict
+breach_if bad refusal v = cond bad (Err (breach refusal 0 0)) v
 
--- the first of the k elements from i on that is bad, as a breach with this number, and with the common beginning that is told of the element
-unfoldable pub first_bad : (ℕ → Bool) → (ℕ → ℕ) → ℕ → ℕ → ℕ → Verdict
-first_bad bad common number zero i = Sound
-first_bad bad common number (suc k) i = cond (bad i) (Breach number i (common i)) (first_bad bad common number k (i + 1))
+-- the first of the k elements from i on that is bad, as a breach with this cause, and with the common beginning that is told of the element
+unfoldable pub first_bad : (ℕ → Bool) → (ℕ → ℕ) → Refusal → ℕ → ℕ → Verdict
+first_bad bad common refusal zero i = Ok tt
+first_bad bad common refusal (suc k) i = cond (bad i) (Err (breach refusal i (common i))) (first_bad bad common refusal k (i + 1))
 
 -- 02, order 2: of a rule that compares no keys, 0
 abbrev pub no_common : ℕ → ℕ
@@ -68,7 +79,7 @@ element_bad leaf b i = outside (table_end leaf b) (length b) (key_at leaf b i) (
 
 -- ---- rule 7: a key not above the one before it
 unfoldable pub key_bad : Bool → List ℕ → ℕ → Bool
-key_bad leaf b i = not (is_lower (order_of (key_of leaf b (i - 1)) (key_of leaf b i)))
+key_bad leaf b i = not (is_lt (order_of (key_of leaf b (i - 1)) (key_of leaf b i)))
 
 -- 02, order 2: its common beginning with the key before it
 abbrev pub common_before : Bool → List ℕ → ℕ → ℕ
@@ -76,11 +87,11 @@ common_before leaf b i = common_of (key_of leaf b (i - 1)) (key_of leaf b i)
 
 -- ---- rules 6 and 7 of the elements
 abbrev pub elements_of : Bool → List ℕ → Verdict
-elements_of leaf b = and_then (first_bad (element_bad leaf b) no_common 5 (count_of b) 0) (first_bad (key_bad leaf b) (common_before leaf b) 6 (count_of b - 1) 1)
+elements_of leaf b = and_then (first_bad (element_bad leaf b) no_common Element (count_of b) 0) (first_bad (key_bad leaf b) (common_before leaf b) KeyOrder (count_of b - 1) 1)
 
 -- ---- rules 5 to 7 of a block
 unfoldable pub check_of : Bool → Bool → List ℕ → Verdict
-check_of leaf empty_ok b = breach_if (table_bad leaf empty_ok b) 4 (elements_of leaf b)
+check_of leaf empty_ok b = breach_if (table_bad leaf empty_ok b) Table (elements_of leaf b)
 
 -- a block that keeps rules 5 to 7
 pub record SoundBlock (leaf empty_ok : Bool) (b : List ℕ) : Type 0 where
@@ -89,7 +100,7 @@ pub record SoundBlock (leaf empty_ok : Bool) (b : List ℕ) : Type 0 where
   pub after : (i : ℕ) → i < count_of b → table_end leaf b ≤ key_at leaf b i
   pub within : (i : ℕ) → i < count_of b → value_end leaf b i ≤ length b
   pub kinds : (i : ℕ) → i < count_of b → kind_bad_at leaf b i ≡ false
-  pub rising : (i : ℕ) → i + 1 < count_of b → order_of (key_of leaf b i) (key_of leaf b (i + 1)) ≡ Lower
+  pub rising : (i : ℕ) → i + 1 < count_of b → order_of (key_of leaf b i) (key_of leaf b (i + 1)) ≡ Less
 
 -- ---- a lent single block, as an edit checks it: its length is a multiple of P and at least P, else 1;
 -- type 1 or 2 and overflow agreeing with the length, else 3; then rules 5 to 7, an empty leaf allowed
@@ -100,4 +111,4 @@ abbrev pub lent_header_bad : ℕ → List ℕ → Bool
 lent_header_bad P b = not ((is_branch b || is_leaf b) && eqb ((overflow_of b + 1) * P) (length b))
 
 unfoldable pub lent_check_of : ℕ → List ℕ → Verdict
-lent_check_of P b = breach_if (length_bad P b) 1 (breach_if (lent_header_bad P b) 3 (check_of (is_leaf b) (is_leaf b) b))
+lent_check_of P b = breach_if (length_bad P b) Geometry (breach_if (lent_header_bad P b) Header (check_of (is_leaf b) (is_leaf b) b))

@@ -1,4 +1,4 @@
-// The one pass over a branch's elements.
+// The one pass over a branch's elements. Each kind has one of its own, so that none tests it: docs/DECISIONS.md.
 ghost use Rattle.std.specs.Prelude.{◌≡◌, false, ◌≤◌, length};
 ghost use Rattle.page.specs.Layout.{count_of, table_end};
 ghost use Rattle.page.specs.PageRules.{is_sound, elements_of};
@@ -14,10 +14,10 @@ pub fn branch_keeps(b: &[u8], n: usize) -> bool
     ensures { result ≡ is_sound (elements_of false b.now) }
 {
     let end = HEADER_SIZE + BRANCH_SIZE * n;
-    let mut at = HEADER_SIZE;
     let mut start = 0;
     let mut stop = 0;
-    while at < end {
+    for i in 0..n {
+        let at = HEADER_SIZE + BRANCH_SIZE * i;
         let key = u64_at(b, at + 8) as usize;
         let pos = u64_at(b, at + 16) as usize;
         if outside(end, b.len(), at, pos, key, 0) {
@@ -25,14 +25,13 @@ pub fn branch_keeps(b: &[u8], n: usize) -> bool
         }
         let from = at + pos;
         let to = from + key;
-        if HEADER_SIZE < at {
+        if 0 < i {
             if !is_below(&b[start..stop], &b[from..to]) {
                 return false;
             }
         }
         start = from;
         stop = to;
-        at += BRANCH_SIZE;
     }
     true
 }

@@ -3,9 +3,9 @@ ghost use Rattle.std.specs.Prelude.{◌≡◌, true, false, ◌+◌, ◌≤◌, 
 ghost use Rattle.field.specs.Order.{order_of};
 ghost use Rattle.page.specs.Layout.{id_of, type_of, count_of, overflow_of, is_leaf, element_size, element_at, page_of, kind_of, key_size, value_size, key_at, value_at, key_of};
 
-use field::Order;
 use field::number::u64_at;
 use field::order::order_of;
+use std::cmp::Ordering;
 
 pub const HEADER_SIZE: usize = 32;
 
@@ -121,7 +121,7 @@ pub fn key(b: &[u8], leaf: bool, i: usize) -> &[u8]
 }
 
 // The order of the key of element `i` and another key.
-pub fn key_order(b: &[u8], leaf: bool, i: usize, other: &[u8]) -> Order
+pub fn key_order(b: &[u8], leaf: bool, i: usize, other: &[u8]) -> Ordering
     requires { (element_at leaf i + element_size leaf ≤ length b.now) × (value_at leaf b.now i ≤ length b.now) }
     ensures { result ≡ order_of (key_of leaf b.now i) other.now }
 {

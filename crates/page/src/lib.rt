@@ -3,10 +3,11 @@
 #![tactic(auto)]
 
 mod branch_pass;
+pub mod breach;
 pub mod layout;
 mod leaf_pass;
 pub mod rules;
 pub mod search;
 
-pub use rules::Verdict;
-pub use search::{Child, Held, Indexed, Leaf, Place};
+pub use breach::Breach;
+pub use search::{Leaf, Place};

@@ -5,21 +5,16 @@ ghost use Rattle.page.specs.PageRules.{no_common, first_bad, header_bad, table_b
 ghost use Rattle.page.specs.PageRules.{outside as outside_of};
 
 use super::branch_pass::branch_keeps;
+use super::breach::Breach;
 use super::layout::{
     BRANCH_SIZE, HEADER_SIZE, LEAF_SIZE, TYPE_BRANCH, TYPE_LEAF, count, id, is_leaf, key, overflow,
     page_type,
 };
 use super::leaf_pass::leaf_keeps;
+use field::Refusal;
 use field::number::u64_at;
-use field::order::{compare, is_lower};
+use field::order::compare;
 use field::sizes::size_allowed;
-
-// What a check answers: a breach has 01's number, the element's index and the length of the common beginning, 0 where there is none.
-#[derive(Clone, Copy)]
-pub enum Verdict {
-    Sound,
-    Breach(u64, usize, usize),
-}
 
 // Whether the page is neither a branch nor a leaf.
 fn type_bad(s: &[u8]) -> bool
@@ -142,51 +137,52 @@ fn table_end(leaf: bool, n: usize) -> usize
 }
 
 // Rule 6: the first element that breaks it.
-fn check_elements(b: &[u8], leaf: bool, n: usize) -> Verdict
+fn check_elements(b: &[u8], leaf: bool, n: usize) -> Result<(), Breach>
     requires { (n ≡ count_of b.now) × (table_end leaf b.now ≤ length b.now) }
-    ensures { result ≡ first_bad (element_bad leaf b.now) no_common 5 n 0 }
+    ensures { result ≡ first_bad (element_bad leaf b.now) no_common Refusal.Element n 0 }
 {
     let end = table_end(leaf, n);
-    let mut i = 0;
-    while i < n {
+    for i in 0..n {
         if element_bad(b, leaf, end, i) {
-            return Verdict::Breach(5, i, 0);
+            return Err(Breach {
+                refusal: Refusal::Element,
+                element: i,
+                common: 0,
+            });
         }
-        i += 1;
     }
-    Verdict::Sound
+    Ok(())
 }
 
 // Rule 7: the first element whose key is not above the one before it, and how far the two are alike.
-fn check_keys(b: &[u8], leaf: bool, n: usize) -> Verdict
+fn check_keys(b: &[u8], leaf: bool, n: usize) -> Result<(), Breach>
     requires { (n ≡ count_of b.now) × (table_end leaf b.now ≤ length b.now)
         × ((i : ℕ) → i < n → value_at leaf b.now i ≤ length b.now) }
-    ensures { result ≡ first_bad (key_bad leaf b.now) (common_before leaf b.now) 6 (n - 1) 1 }
+    ensures { result ≡ first_bad (key_bad leaf b.now) (common_before leaf b.now) Refusal.KeyOrder (n - 1) 1 }
 {
-    let mut i = 1;
-    while i < n {
+    for i in 1..n {
         let parting = compare(key(b, leaf, i - 1), key(b, leaf, i));
-        let order = parting.order;
-        if !is_lower(order) {
-            return Verdict::Breach(6, i, parting.common);
+        if !parting.order.is_lt() {
+            return Err(Breach {
+                refusal: Refusal::KeyOrder,
+                element: i,
+                common: parting.common,
+            });
         }
-        i += 1;
     }
-    Verdict::Sound
+    Ok(())
 }
 
 // Rules 6 and 7, one after the other: the first breach.
-fn check_each(b: &[u8], leaf: bool, n: usize) -> Verdict
+fn check_each(b: &[u8], leaf: bool, n: usize) -> Result<(), Breach>
     requires { (n ≡ count_of b.now) × (table_end leaf b.now ≤ length b.now) }
     ensures { result ≡ elements_of leaf b.now }
 {
-    match check_elements(b, leaf, n) {
-        Verdict::Breach(number, i, common) => Verdict::Breach(number, i, common),
-        Verdict::Sound => check_keys(b, leaf, n),
-    }
+    check_elements(b, leaf, n)?;
+    check_keys(b, leaf, n)
 }
 
-// Whether the elements keep rules 6 and 7, so that `check_each` would answer Sound.
+// Whether the elements keep rules 6 and 7, so that `check_each` finds no breach.
 fn keeps(b: &[u8], leaf: bool, n: usize) -> bool
     requires { (n ≡ count_of b.now) × (table_end leaf b.now ≤ length b.now) }
     ensures { result ≡ is_sound (elements_of leaf b.now) }
@@ -198,16 +194,16 @@ fn keeps(b: &[u8], leaf: bool, n: usize) -> bool
 }
 
 // Rules 5 to 7 of a block: the first breach, which is looked for only where there is one. `empty` tells whether a count of 0 is allowed.
-pub fn check(b: &[u8], leaf: bool, empty: bool) -> Verdict
+pub fn check(b: &[u8], leaf: bool, empty: bool) -> Result<(), Breach>
     requires { 32 ≤ length b.now }
     ensures { result ≡ check_of leaf empty b.now }
 {
     if table_bad(b, leaf, empty) {
-        return Verdict::Breach(4, 0, 0);
+        return Err(Breach::from(Refusal::Table));
     }
     let n = count(b);
     if keeps(b, leaf, n) {
-        return Verdict::Sound;
+        return Ok(());
     }
     check_each(b, leaf, n)
 }
@@ -237,14 +233,14 @@ fn lent_header_bad(b: &[u8], p: usize) -> bool
 }
 
 // The check of a lent single block, as an edit makes it.
-pub fn lent_check(b: &[u8], p: usize) -> Verdict
+pub fn lent_check(b: &[u8], p: usize) -> Result<(), Breach>
     ensures { result ≡ lent_check_of p b.now }
 {
     if length_bad(b, p) {
-        return Verdict::Breach(1, 0, 0);
+        return Err(Breach::from(Refusal::Geometry));
     }
     if lent_header_bad(b, p) {
-        return Verdict::Breach(3, 0, 0);
+        return Err(Breach::from(Refusal::Header));
     }
     let leaf = is_leaf(b);
     check(b, leaf, leaf)

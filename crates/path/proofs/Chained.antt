@@ -84,7 +84,7 @@ module _ {P : Type 0} where
 
   leaf_mem : (p k j : ℕ) (es : List (Item P)) (e : Item P) → nth es j ≡ some e → Mem (spot (step p (j + k) ∷ []) e) (leaf_spots p k es)
   unfolding nth
-  leaf_mem p k j [] e n = absurd (let z : ◌≡◌ {A = ℕ} 0 1 = cc in omega arith)
+  leaf_mem p k j [] e n = absurd cc
   leaf_mem p k zero (x ∷ es) e n =
       let a : x ≡ e = cc in
       let z : zero + k ≡ k = omega arith in
@@ -182,7 +182,7 @@ module _ {P : Type 0} (N : ℕ) (view : ℕ → Bool → View P) where
           let x : xs ≡ es = cc in
           let z : i + 0 ≡ i = omega arith in
           rw a (rw z at (leaf_mem p 0 i es e (rw x at n)))
-      in_leaf path e m (on_branch i cs c rest rest' g n k a b) = absurd (let z : ◌≡◌ {A = ℕ} 0 1 = cc in omega arith)
+      in_leaf path e m (on_branch i cs c rest rest' g n k a b) = absurd cc
 
   no_row : (d : ℕ) (t : Bool) (p : ℕ) (all : List (Item ℕ)) (k : ℕ) → k ≡ length all → Row d t p all k [] []
   unfolding nth entries
@@ -195,7 +195,7 @@ module _ {P : Type 0} (N : ℕ) (view : ℕ → Bool → View P) where
         first = refl;
         last = rw l;
         sought = λ key f. absurd (f refl);
-        only = λ j c path e n h. absurd (let z : ◌≡◌ {A = ℕ} 0 1 = cc in omega arith);
+        only = λ j c path e n h. absurd cc;
       }
 
   -- a child's chain before those of the children after it
@@ -239,7 +239,7 @@ module _ {P : Type 0} (N : ℕ) (view : ℕ → Bool → View P) where
 
       some_joined : (R : List (Spot P)) → (R ≡ [] → ⊥) → beneath u R ++ T ≡ [] → ⊥
       some_joined [] g e = g refl
-      some_joined (x ∷ R) g e = let z : ◌≡◌ {A = ℕ} 0 1 = cc in omega arith
+      some_joined (x ∷ R) g e = cc
 
       -- after this child's last spot comes the first of the rest
       following : child_at (outer N view Onward d false) p (beside Onward all k) ≡ front T end
@@ -322,7 +322,7 @@ module _ {P : Type 0} (N : ℕ) (view : ℕ → Bool → View P) where
       }
     where
       in_child : (path : List Step) (e : Item P) → Followed N view d t p path path e → Mem (spot path e) row.spots
-      in_child path e (on_leaf i es g n a b) = absurd (let z : ◌≡◌ {A = ℕ} 0 1 = cc in omega arith)
+      in_child path e (on_leaf i es g n a b) = absurd cc
       in_child path e (on_branch i cs c rest rest' g n k a b) =
           let x : cs ≡ all = cc in
           let z : i + 0 ≡ i = omega arith in

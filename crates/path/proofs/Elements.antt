@@ -35,7 +35,7 @@ module _ {A : Type 0} where
 
   pub nth_at : (xs : List A) (i : ℕ) (x : A) → nth xs i ≡ some x → At xs i x
   unfolding nth
-  nth_at [] i x e = absurd (let z : ◌≡◌ {A = ℕ} 0 1 = cc in omega arith)
+  nth_at [] i x e = absurd cc
   nth_at (y ∷ ys) zero x e = cc
   nth_at (y ∷ ys) (suc i) x e = nth_at ys i x e
 

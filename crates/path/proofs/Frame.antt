@@ -13,6 +13,7 @@ use Rattle.path.specs.declared.Step.{Step}
 use Rattle.path.specs.Path.{step, Placed, nth, beside, outermost, leading, Move, at, end, refused, lacking, below, child_at, or_beside, outer_page, seek_child, seek_page, follow_child, follow_page, beside_child, beside_page, met, outer, seek, follow, neighbour, move}
 use Rattle.path.proofs.Elements.{There, rest_whole, nth_at, outermost_there, beside_there, leading_there}
 use Rattle.path.proofs.Stands.{met_branch}
+use Rattle.field.specs.declared.refusal.Refusal.TheVariants.{PageNumber}
 
 -- ---- moves below a branch, where two ways to go on agree on its children
 module _ {P : Type 0} (cs : List (Item ℕ)) where
@@ -43,7 +44,7 @@ module _ {P : Type 0} (N : ℕ) (view view' : ℕ → Bool → View P) where
   agree_down q t cs f h i c a l p s w = h (suc l) p s (down i c f a w)
 
   met_frame : (q : ℕ) (t : Bool) → Agree q t → met N view' q t ≡ met N view q t
-  met_frame q t h = ap (λ (v : View P). cond (inside N q) v (bad 2 0 0)) (h 1 q t here)
+  met_frame q t h = ap (λ (v : View P). cond (inside N q) v (bad PageNumber 0 0)) (h 1 q t here)
 
   pub outer_frame : (way : Direction) (d : ℕ) (t : Bool) (q : ℕ) → Agree q t → outer N view' way d t q ≡ outer N view way d t q
   unfolding outer

@@ -1,7 +1,6 @@
 -- Lists of spots, each an entry with the path to it: the first and the last, those below a step, those from a key on, and chains, in which each spot's neighbours are the spots beside it.
 -- Assumes nothing.
 use Prim.Native.Nat.{ℕ}
-use native.Mathlib.Omega.{arith}
 use mathlib.Core.Path.{◌≡◌, refl, sym, ap, ◌∙◌}
 use mathlib.Core.List.{List, [], ◌∷◌, ◌++◌}
 use mathlib.Core.Bool.{Bool, true, false, cond}
@@ -13,6 +12,7 @@ use Rattle.path.specs.declared.Direction.TheVariants.{Onward, Back}
 use Rattle.path.specs.declared.Step.{Step}
 use Rattle.path.specs.Path.{step, Move, at, end, refused, below, or_beside}
 use Rattle.path.specs.Lists.{opposite}
+use Rattle.field.specs.declared.refusal.Refusal.{Refusal}
 
 -- an entry with the path to it
 pub record Spot (P : Type 0) : Type 0 where
@@ -117,13 +117,13 @@ module _ {P : Type 0} where
   back_beneath u (s ∷ S) m f = back_below u S (to s)
 
   -- ---- to the first or the last is no refusal
-  pub front_not_refused : (S : List (Spot P)) (r p i c : ℕ) → front S end ≡ refused r p i c → ⊥
-  front_not_refused [] r p i c h = let z : ◌≡◌ {A = ℕ} 0 1 = cc in omega arith
-  front_not_refused (s ∷ S) r p i c h = let z : ◌≡◌ {A = ℕ} 0 1 = cc in omega arith
+  pub front_not_refused : (S : List (Spot P)) (r : Refusal) (p i c : ℕ) → front S end ≡ refused r p i c → ⊥
+  front_not_refused [] r p i c h = cc
+  front_not_refused (s ∷ S) r p i c h = cc
 
-  pub back_not_refused : (m : Move P) (S : List (Spot P)) (r p i c : ℕ) → (m ≡ refused r p i c → ⊥) → back S m ≡ refused r p i c → ⊥
+  pub back_not_refused : (m : Move P) (S : List (Spot P)) (r : Refusal) (p i c : ℕ) → (m ≡ refused r p i c → ⊥) → back S m ≡ refused r p i c → ⊥
   back_not_refused m [] r p i c f h = f h
-  back_not_refused m (s ∷ S) r p i c f h = back_not_refused (to s) S r p i c (λ q. let z : ◌≡◌ {A = ℕ} 0 1 = cc in omega arith) h
+  back_not_refused m (s ∷ S) r p i c f h = back_not_refused (to s) S r p i c (λ q. cc) h
 
 -- ---- chains: `stay` follows the path of each spot to it, and `go` moves from it to the spots beside it; before the first it comes to `b`, and after the last to `a`
 module _ {P : Type 0} (stay : List Step → Move P) (go : Direction → List Step → Move P) where
@@ -147,7 +147,7 @@ module _ {P : Type 0} (stay : List Step → Move P) (go : Direction → List Ste
       chain_undoes (to x) S s way path e (λ path' e' q. let r : x.path ≡ path' = cc in rw (← r) h.2) h.3 m g
   chain_undoes b (x ∷ S) s Back path e hb h (inl m) g = rw m (hb path e (sym h.1 ∙ rw m at g))
   chain_undoes b (x ∷ []) s Onward path e hb h (inl m) g =
-      absurd (let f = h.2 in let k = rw m at g in let z : ◌≡◌ {A = ℕ} 0 1 = cc in omega arith)
+      absurd (let f = h.2 in let k = rw m at g in cc)
   chain_undoes b (x ∷ y ∷ S) s Onward path e hb h (inl m) g =
       let f = h.2 in
       let k = rw m at g in
@@ -155,7 +155,7 @@ module _ {P : Type 0} (stay : List Step → Move P) (go : Direction → List Ste
       rw (← r, m) h.3.1
 
   -- from a spot no move is refused, where none is before the first
-  pub chain_not_refused : (b : Move P) (S : List (Spot P)) (s : Spot P) (way : Direction) (r p i c : ℕ)
+  pub chain_not_refused : (b : Move P) (S : List (Spot P)) (s : Spot P) (way : Direction) (r : Refusal) (p i c : ℕ)
       → (b ≡ refused r p i c → ⊥)
       → Chain b S end
       → Mem s S
@@ -163,7 +163,7 @@ module _ {P : Type 0} (stay : List Step → Move P) (go : Direction → List Ste
       → ⊥
   chain_not_refused b [] s way r p i c hb h m g = m
   chain_not_refused b (x ∷ S) s way r p i c hb h (inr m) g =
-      chain_not_refused (to x) S s way r p i c (λ q. let z : ◌≡◌ {A = ℕ} 0 1 = cc in omega arith) h.3 m g
+      chain_not_refused (to x) S s way r p i c (λ q. cc) h.3 m g
   chain_not_refused b (x ∷ S) s Back r p i c hb h (inl m) g = hb (sym h.1 ∙ rw m at g)
   chain_not_refused b (x ∷ S) s Onward r p i c hb h (inl m) g = front_not_refused S r p i c (sym h.2 ∙ rw m at g)
 

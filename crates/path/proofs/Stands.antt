@@ -16,6 +16,7 @@ use Rattle.path.specs.declared.Direction.TheVariants.{Onward}
 use Rattle.path.specs.declared.Step.{Step}
 use Rattle.path.specs.Path.{step, Placed, nth, beside, outermost, not_below, leading, Move, at, end, refused, lacking, entry_at, below, child_at, or_beside, outer_page, seek_child, seek_page, follow_leaf, follow_child, follow_page, and_then, met, outer, seek, follow, neighbour, move}
 use Rattle.path.proofs.Elements.{There, rest_whole, outermost_there, beside_there, not_below_there, leading_there}
+use Rattle.field.specs.declared.refusal.Refusal.TheVariants.{PageNumber}
 
 -- ---- a move that came to an entry, and what it was made of
 module _ {P : Type 0} where
@@ -24,13 +25,13 @@ module _ {P : Type 0} where
       let a : x ≡ e = cc in
       let b : s ∷ rest ≡ path = cc in
       (rest, rw a, sym b)
-  below_at s end path e h = absurd (let z : ◌≡◌ {A = ℕ} 0 1 = cc in omega arith)
-  below_at s (refused r p i c) path e h = absurd (let z : ◌≡◌ {A = ℕ} 0 1 = cc in omega arith)
+  below_at s end path e h = absurd cc
+  below_at s (refused r p i c) path e h = absurd cc
 
   entry_at_lem : (q : ℕ) (o : Option (Placed (Item P))) (path : List Step) (e : Item P)
       → entry_at q o ≡ at path e
       → (x : Placed (Item P)) × (o ≡ some x) × (path ≡ step q x.index ∷ []) × (x.item ≡ e)
-  entry_at_lem q none path e h = absurd (let z : ◌≡◌ {A = ℕ} 0 1 = cc in omega arith)
+  entry_at_lem q none path e h = absurd cc
   entry_at_lem q (some x) path e h =
       let a : x.item ≡ e = cc in
       let b : step q x.index ∷ [] ≡ path = cc in
@@ -39,7 +40,7 @@ module _ {P : Type 0} where
   child_at_lem : (go : ℕ → Move P) (q : ℕ) (o : Option (Placed (Item ℕ))) (path : List Step) (e : Item P)
       → child_at go q o ≡ at path e
       → (c : Placed (Item ℕ)) × (o ≡ some c) × (rest : List Step) × (go c.item.value ≡ at rest e) × (path ≡ step q c.index ∷ rest)
-  child_at_lem go q none path e h = absurd (let z : ◌≡◌ {A = ℕ} 0 1 = cc in omega arith)
+  child_at_lem go q none path e h = absurd cc
   child_at_lem go q (some c) path e h =
       let b = below_at (step q c.index) (go c.item.value) path e h in
       (c, refl, b.0, b.1, b.2)
@@ -49,28 +50,28 @@ module _ {P : Type 0} where
       → ((rest : List Step) × (m ≡ at rest e) × (path ≡ step q i ∷ rest)) ⊎ (child_at out q (beside way cs i) ≡ at path e)
   or_beside_at way out q cs i (at rest x) path e h = inl (below_at (step q i) (at rest x) path e h)
   or_beside_at way out q cs i end path e h = inr h
-  or_beside_at way out q cs i (refused r p j c) path e h = absurd (let z : ◌≡◌ {A = ℕ} 0 1 = cc in omega arith)
+  or_beside_at way out q cs i (refused r p j c) path e h = absurd cc
 
   pub then_at : (m k : Move P) (path : List Step) (e : Item P) → and_then m k ≡ at path e → (path₀ : List Step) × (e₀ : Item P) × (m ≡ at path₀ e₀) × (k ≡ at path e)
   then_at (at path₀ e₀) k path e h = (path₀, e₀, refl, h)
-  then_at end k path e h = absurd (let z : ◌≡◌ {A = ℕ} 0 1 = cc in omega arith)
-  then_at (refused r p i c) k path e h = absurd (let z : ◌≡◌ {A = ℕ} 0 1 = cc in omega arith)
+  then_at end k path e h = absurd cc
+  then_at (refused r p i c) k path e h = absurd cc
 
 module _ {P : Type 0} (N : ℕ) (view : ℕ → Bool → View P) where
   -- a page that is met as a branch or a leaf is in bounds
   pub met_branch : (q : ℕ) (t : Bool) (cs : List (Item ℕ)) → met N view q t ≡ branch cs → view q t ≡ branch cs
   met_branch q t cs = go (inside N q)
     where
-      go : (b : Bool) → cond b (view q t) (bad 2 0 0) ≡ branch cs → view q t ≡ branch cs
+      go : (b : Bool) → cond b (view q t) (bad PageNumber 0 0) ≡ branch cs → view q t ≡ branch cs
       go true h = h
-      go false h = absurd (let z : ◌≡◌ {A = ℕ} 0 1 = cc in omega arith)
+      go false h = absurd cc
 
   pub met_leaf : (q : ℕ) (t : Bool) (es : List (Item P)) → met N view q t ≡ leaf es → view q t ≡ leaf es
   met_leaf q t es = go (inside N q)
     where
-      go : (b : Bool) → cond b (view q t) (bad 2 0 0) ≡ leaf es → view q t ≡ leaf es
+      go : (b : Bool) → cond b (view q t) (bad PageNumber 0 0) ≡ leaf es → view q t ≡ leaf es
       go true h = h
-      go false h = absurd (let z : ◌≡◌ {A = ℕ} 0 1 = cc in omega arith)
+      go false h = absurd cc
 
   -- ---- following a path, a page at a time
   pub follow_leaf_lem : (d : ℕ) (t : Bool) (q i : ℕ) (es : List (Item P)) (e : Item P)
@@ -105,7 +106,7 @@ module _ {P : Type 0} (N : ℕ) (view : ℕ → Bool → View P) where
 
   pub followed : (d : ℕ) (t : Bool) (q : ℕ) (path path' : List Step) (e : Item P) → follow N view (suc d) t q path ≡ at path' e → Followed d t q path path' e
   unfolding follow
-  followed d t q [] path' e h = absurd (let z : ◌≡◌ {A = ℕ} 0 1 = cc in omega arith)
+  followed d t q [] path' e h = absurd cc
   followed d t q (s ∷ path) path' e h = named (eqb s.page q) refl h
     where
       here : s.page ≡ q → s ≡ step q s.index
@@ -117,12 +118,12 @@ module _ {P : Type 0} (N : ℕ) (view : ℕ → Bool → View P) where
           → nth es s.index ≡ o
           → follow_leaf q s.index rest o ≡ at path' e
           → Followed d t q (s ∷ rest) path' e
-      in_leaf es rest none a m n f = absurd (let z : ◌≡◌ {A = ℕ} 0 1 = cc in omega arith)
+      in_leaf es rest none a m n f = absurd cc
       in_leaf es [] (some x) a m n f =
           let b : x ≡ e = cc in
           let c : step q s.index ∷ [] ≡ path' = cc in
           on_leaf s.index es m (n ∙ ap some b) (rw (here a)) (rw (← here a) at (sym c))
-      in_leaf es (u ∷ rest) (some x) a m n f = absurd (let z : ◌≡◌ {A = ℕ} 0 1 = cc in omega arith)
+      in_leaf es (u ∷ rest) (some x) a m n f = absurd cc
 
       in_branch : (cs : List (Item ℕ)) (o : Option (Item ℕ))
           → s.page ≡ q
@@ -130,7 +131,7 @@ module _ {P : Type 0} (N : ℕ) (view : ℕ → Bool → View P) where
           → nth cs s.index ≡ o
           → follow_child (λ child. follow N view d false child path) q s.index o ≡ at path' e
           → Followed d t q (s ∷ path) path' e
-      in_branch cs none a m n f = absurd (let z : ◌≡◌ {A = ℕ} 0 1 = cc in omega arith)
+      in_branch cs none a m n f = absurd cc
       in_branch cs (some c) a m n f =
           let b = below_at (step q s.index) (follow N view d false c.value path) path' e f in
           on_branch s.index cs c path b.0 m n b.1 (ap (λ (u : Step). u ∷ path) (here a)) b.2
@@ -140,7 +141,7 @@ module _ {P : Type 0} (N : ℕ) (view : ℕ → Bool → View P) where
           → met N view q t ≡ v
           → follow_page (λ child. follow N view d false child path) v q s.index path ≡ at path' e
           → Followed d t q (s ∷ path) path' e
-      on (bad r i c) a m f = absurd (let z : ◌≡◌ {A = ℕ} 0 1 = cc in omega arith)
+      on (bad r i c) a m f = absurd cc
       on (branch cs) a m f = in_branch cs (nth cs s.index) a m refl f
       on (leaf es) a m f = in_leaf es path (nth es s.index) a m refl f
 
@@ -149,13 +150,13 @@ module _ {P : Type 0} (N : ℕ) (view : ℕ → Bool → View P) where
           → cond b (follow_page (λ child. follow N view d false child path) (met N view q t) q s.index path) lacking ≡ at path' e
           → Followed d t q (s ∷ path) path' e
       named true a f = on (met N view q t) (eqb-true s.page q a) refl f
-      named false a f = absurd (let z : ◌≡◌ {A = ℕ} 0 1 = cc in omega arith)
+      named false a f = absurd cc
 
   -- no path is followed through no level
   pub follow_none : (t : Bool) (q : ℕ) (path path' : List Step) (e : Item P) → follow N view 0 t q path ≡ at path' e → ⊥
   unfolding follow
-  follow_none t q [] path' e h = let z : ◌≡◌ {A = ℕ} 0 1 = cc in omega arith
-  follow_none t q (s ∷ path) path' e h = let z : ◌≡◌ {A = ℕ} 0 1 = cc in omega arith
+  follow_none t q [] path' e h = cc
+  follow_none t q (s ∷ path) path' e h = cc
 
   -- a path that is followed to an entry is the path to it
   pub follow_same : (d : ℕ) (t : Bool) (q : ℕ) (path path' : List Step) (e : Item P) → follow N view d t q path ≡ at path' e → path' ≡ path
@@ -171,32 +172,32 @@ module _ {P : Type 0} (N : ℕ) (view : ℕ → Bool → View P) where
   -- to follow a path never ends without an entry or a refusal
   pub follow_not_end : (d : ℕ) (t : Bool) (q : ℕ) (path : List Step) → follow N view d t q path ≡ end → ⊥
   unfolding follow
-  follow_not_end d t q [] h = let z : ◌≡◌ {A = ℕ} 0 1 = cc in omega arith
-  follow_not_end zero t q (s ∷ path) h = let z : ◌≡◌ {A = ℕ} 0 1 = cc in omega arith
+  follow_not_end d t q [] h = cc
+  follow_not_end zero t q (s ∷ path) h = cc
   follow_not_end (suc d) t q (s ∷ path) h = named (eqb s.page q) h (λ c. follow_not_end d false c path)
     where
       carried : (u : Step) (m : Move P) → below u m ≡ end → (m ≡ end → ⊥) → ⊥
-      carried u (at rest e) f g = let z : ◌≡◌ {A = ℕ} 0 1 = cc in omega arith
+      carried u (at rest e) f g = cc
       carried u end f g = g refl
-      carried u (refused r p i c) f g = let z : ◌≡◌ {A = ℕ} 0 1 = cc in omega arith
+      carried u (refused r p i c) f g = cc
 
       in_leaf : (rest : List Step) (o : Option (Item P)) → follow_leaf q s.index rest o ≡ end → ⊥
-      in_leaf rest none f = let z : ◌≡◌ {A = ℕ} 0 1 = cc in omega arith
-      in_leaf [] (some x) f = let z : ◌≡◌ {A = ℕ} 0 1 = cc in omega arith
-      in_leaf (u ∷ rest) (some x) f = let z : ◌≡◌ {A = ℕ} 0 1 = cc in omega arith
+      in_leaf rest none f = cc
+      in_leaf [] (some x) f = cc
+      in_leaf (u ∷ rest) (some x) f = cc
 
       in_branch : (o : Option (Item ℕ))
           → follow_child (λ child. follow N view d false child path) q s.index o ≡ end
           → ((c : ℕ) → follow N view d false c path ≡ end → ⊥)
           → ⊥
-      in_branch none f ih = let z : ◌≡◌ {A = ℕ} 0 1 = cc in omega arith
+      in_branch none f ih = cc
       in_branch (some c) f ih = carried (step q s.index) (follow N view d false c.value path) f (ih c.value)
 
       on : (v : View P)
           → follow_page (λ child. follow N view d false child path) v q s.index path ≡ end
           → ((c : ℕ) → follow N view d false c path ≡ end → ⊥)
           → ⊥
-      on (bad r i c) f ih = let z : ◌≡◌ {A = ℕ} 0 1 = cc in omega arith
+      on (bad r i c) f ih = cc
       on (branch cs) f ih = in_branch (nth cs s.index) f ih
       on (leaf es) f ih = in_leaf path (nth es s.index) f
 
@@ -205,7 +206,7 @@ module _ {P : Type 0} (N : ℕ) (view : ℕ → Bool → View P) where
           → ((c : ℕ) → follow N view d false c path ≡ end → ⊥)
           → ⊥
       named true f ih = on (met N view q t) f ih
-      named false f ih = let z : ◌≡◌ {A = ℕ} 0 1 = cc in omega arith
+      named false f ih = cc
 
   pub follow_length : (d : ℕ) (t : Bool) (q : ℕ) (path path' : List Step) (e : Item P) → follow N view d t q path ≡ at path' e → (1 ≤ length path) × (length path ≤ d)
   follow_length zero t q path path' e h = absurd (follow_none t q path path' e h)
@@ -283,7 +284,7 @@ module _ {P : Type 0} (N : ℕ) (view : ℕ → Bool → View P) where
       → outer N view way d t q ≡ at path e
       → follow N view d t q path ≡ at path e
   unfolding outer
-  outer_stands way zero t q path e h = absurd (let z : ◌≡◌ {A = ℕ} 0 1 = cc in omega arith)
+  outer_stands way zero t q path e h = absurd cc
   outer_stands way (suc d) t q path e h = go (met N view q t) refl h (outer_stands way d false)
     where
       go : (v : View P)
@@ -291,7 +292,7 @@ module _ {P : Type 0} (N : ℕ) (view : ℕ → Bool → View P) where
           → outer_page way (outer N view way d false) v q ≡ at path e
           → Stand d (outer N view way d false)
           → follow N view (suc d) t q path ≡ at path e
-      go (bad r i c) m f ih = absurd (let z : ◌≡◌ {A = ℕ} 0 1 = cc in omega arith)
+      go (bad r i c) m f ih = absurd cc
       go (branch cs) m f ih = child_stands d t q cs (outer N view way d false) (outermost way cs) path e m ih (outermost_there way cs) f
       go (leaf es) m f ih = leaf_stands d t q es (outermost way es) path e m (outermost_there way es) f
 
@@ -299,7 +300,7 @@ module _ {P : Type 0} (N : ℕ) (view : ℕ → Bool → View P) where
       → seek N view key d t q ≡ at path e
       → follow N view d t q path ≡ at path e
   unfolding seek
-  seek_stands key zero t q path e h = absurd (let z : ◌≡◌ {A = ℕ} 0 1 = cc in omega arith)
+  seek_stands key zero t q path e h = absurd cc
   seek_stands key (suc d) t q path e h = go (met N view q t) refl h (seek_stands key d false)
     where
       in_branch : (cs : List (Item ℕ)) (o : Option (Placed (Item ℕ)))
@@ -308,7 +309,7 @@ module _ {P : Type 0} (N : ℕ) (view : ℕ → Bool → View P) where
           → seek_child (seek N view key d false) (outer N view Onward d false) q cs o ≡ at path e
           → Stand d (seek N view key d false)
           → follow N view (suc d) t q path ≡ at path e
-      in_branch cs none m th f ih = absurd (let z : ◌≡◌ {A = ℕ} 0 1 = cc in omega arith)
+      in_branch cs none m th f ih = absurd cc
       in_branch cs (some c) m th f ih =
           beside_stands Onward d t q c.index cs c.item (outer N view Onward d false) (seek N view key d false c.item.value) path e m th
           (λ rest. ih c.item.value rest e)
@@ -320,7 +321,7 @@ module _ {P : Type 0} (N : ℕ) (view : ℕ → Bool → View P) where
           → seek_page key (seek N view key d false) (outer N view Onward d false) v q ≡ at path e
           → Stand d (seek N view key d false)
           → follow N view (suc d) t q path ≡ at path e
-      go (bad r i c) m f ih = absurd (let z : ◌≡◌ {A = ℕ} 0 1 = cc in omega arith)
+      go (bad r i c) m f ih = absurd cc
       go (branch cs) m f ih = in_branch cs (leading cs key 0) m (leading_there cs cs key 0 (rest_whole cs)) f ih
       go (leaf es) m f ih = leaf_stands d t q es (not_below es key 0) path e m (not_below_there es es key 0 (rest_whole es)) f
 

@@ -2,7 +2,6 @@
 -- a path that was come to stands where it says, and no page is looked at that is not reached.
 -- Assumes, where the walk passes, what a page's own check has seen to: `Checked`, and that no leaf below the root is empty, `filled`.
 use Prim.Native.Nat.{ℕ, ◌≤◌}
-use native.Mathlib.Omega.{arith}
 use mathlib.Core.Path.{◌≡◌, sym, ap, ◌∙◌}
 use mathlib.Core.List.{List, []}
 use mathlib.Core.Bool.{Bool, true, false}
@@ -25,6 +24,7 @@ use Rattle.path.proofs.Frame.{Agree, outer_frame, seek_frame, follow_frame, move
 use Rattle.path.proofs.Spots.{spot, items, since, front_not_refused, back_not_refused, chain_undoes, chain_not_refused}
 use Rattle.path.proofs.Chained.{Chained, chained}
 use Rattle.path.proofs.Listed.{Ascending, ascending_entries, from_lowest, from_since, ascending_since, chain_since, move_beside, chain_onward, chain_back, chain_until}
+use Rattle.field.specs.declared.refusal.Refusal.{Refusal}
 
 -- a path that a call came to stands where it says, whether or not a walk passes: the pages met were judged
 module _ {P : Type 0} (N : ℕ) (view : ℕ → Bool → View P) (root : ℕ) where
@@ -103,7 +103,7 @@ module _ {P : Type 0}
         let stands = neighbour_stands N view way 16 true root path path x.1 path' e stood x.3 in
         let u =
         chain_undoes (follow N view 16 true root) (λ way. neighbour N view way 16 true root) end tree.spots (spot path x.1) way path' e
-        (λ p y q. absurd (let z : ◌≡◌ {A = ℕ} 0 1 = cc in omega arith))
+        (λ p y q. absurd cc)
         tree.chain
         (tree.only path x.1 stood)
         x.3
@@ -111,19 +111,19 @@ module _ {P : Type 0}
         (x.1, move_beside N view 16 true root (opposite way) path' path' e stands ∙ u)
 
     -- nothing is refused
-    pub seek_never_refused : (key : Key) (r p e c : ℕ) → seek N view key 16 true root ≡ refused r p e c → ⊥
+    pub seek_never_refused : (key : Key) (r : Refusal) (p e c : ℕ) → seek N view key 16 true root ≡ refused r p e c → ⊥
     seek_never_refused key r p e c h = front_not_refused (since key tree.spots) r p e c (sym (tree.sought key) ∙ h)
 
-    pub outer_never_refused : (way : Direction) (r p e c : ℕ) → outer N view way 16 true root ≡ refused r p e c → ⊥
+    pub outer_never_refused : (way : Direction) (r : Refusal) (p e c : ℕ) → outer N view way 16 true root ≡ refused r p e c → ⊥
     outer_never_refused Onward r p e c h = front_not_refused tree.spots r p e c (sym tree.first ∙ h)
     outer_never_refused Back r p e c h =
-        back_not_refused end tree.spots r p e c (λ q. let z : ◌≡◌ {A = ℕ} 0 1 = cc in omega arith) (sym tree.last ∙ h)
+        back_not_refused end tree.spots r p e c (λ q. cc) (sym tree.last ∙ h)
 
-    pub made_never_refused : (path : List Step) → Made N view root path → (way : Direction) (r p e c : ℕ) → moved way path ≡ refused r p e c → ⊥
+    pub made_never_refused : (path : List Step) → Made N view root path → (way : Direction) (r : Refusal) (p e c : ℕ) → moved way path ≡ refused r p e c → ⊥
     made_never_refused path m way r p e c h =
         let x = made_stands N view root path m in
         chain_not_refused (follow N view 16 true root) (λ way. neighbour N view way 16 true root) end tree.spots (spot path x.0) way r p e c
-        (λ q. let z : ◌≡◌ {A = ℕ} 0 1 = cc in omega arith)
+        (λ q. cc)
         tree.chain
         (tree.only path x.0 x.1)
         (sym (move_beside N view 16 true root way path path x.0 x.1) ∙ h)

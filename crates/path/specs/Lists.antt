@@ -37,7 +37,7 @@ reversed (e ∷ es) done = reversed es (e ∷ done)
 abbrev pub until : {P : Type 0} → Key → Move P → Move P
 until to (at path e) = cond (lower e.key to) (at path e) end
 until to end = end
-until to (refused number page element common) = refused number page element common
+until to (refused refusal page element common) = refused refusal page element common
 
 abbrev pub opposite : Direction → Direction
 opposite Onward = Back

@@ -7,6 +7,8 @@ use Rattle.walk.specs.Tree.{Key, lower, under, Item, View, bad, branch, leaf, in
 use Rattle.path.specs.declared.Direction.{Direction}
 use Rattle.path.specs.declared.Direction.TheVariants.{Onward, Back}
 use Rattle.path.specs.declared.Step.{Step}
+use Rattle.field.specs.declared.refusal.Refusal.TheVariants.{PageNumber, TooDeep, Argument}
+use Rattle.field.specs.declared.refusal.Refusal.{Refusal}
 
 abbrev pub step : ℕ → ℕ → Step
 step page index = record { page = page; index = index }
@@ -49,15 +51,15 @@ leading [] key i = none
 leading (c ∷ cs) key i = cond (under key (next cs none)) (placed i (some c)) (leading cs key (suc i))
 
 -- ---- what a move comes to
--- an entry, with the path to it; no entry; or a refusal, with its number, page, element and common beginning
+-- an entry, with the path to it; no entry; or a refusal, with its cause, page, element and common beginning
 pub data Move (P : Type 0) : Type 0 where
   at : List Step → Item P → Move P
   end : Move P
-  refused : ℕ → ℕ → ℕ → ℕ → Move P
+  refused : Refusal → ℕ → ℕ → ℕ → Move P
 
 -- 02: "a step the image lacks, or a path not ending in a leaf, is 11"
 abbrev pub lacking : {P : Type 0} → Move P
-lacking = refused 11 0 0 0
+lacking = refused Argument 0 0 0
 
 -- an entry of the leaf on page q
 abbrev pub entry_at : {P : Type 0} → ℕ → Option (Placed (Item P)) → Move P
@@ -68,7 +70,7 @@ entry_at q (some e) = at (step q e.index ∷ []) e.item
 abbrev pub below : {P : Type 0} → Step → Move P → Move P
 below s (at path e) = at (s ∷ path) e
 below s end = end
-below s (refused number page element common) = refused number page element common
+below s (refused refusal page element common) = refused refusal page element common
 
 -- a move below a child of the branch on page q
 abbrev pub child_at : {P : Type 0} → (ℕ → Move P) → ℕ → Option (Placed (Item ℕ)) → Move P
@@ -79,11 +81,11 @@ child_at go q (some c) = below (step q c.index) (go c.item.value)
 abbrev pub or_beside : {P : Type 0} → Direction → (ℕ → Move P) → ℕ → List (Item ℕ) → ℕ → Move P → Move P
 or_beside way out q cs i (at path e) = at (step q i ∷ path) e
 or_beside way out q cs i end = child_at out q (beside way cs i)
-or_beside way out q cs i (refused number page element common) = refused number page element common
+or_beside way out q cs i (refused refusal page element common) = refused refusal page element common
 
 -- ---- what a page says
 abbrev pub outer_page : {P : Type 0} → Direction → (ℕ → Move P) → View P → ℕ → Move P
-outer_page way go (bad number element common) q = refused number q element common
+outer_page way go (bad refusal element common) q = refused refusal q element common
 outer_page way go (branch cs) q = child_at go q (outermost way cs)
 outer_page way go (leaf es) q = entry_at q (outermost way es)
 
@@ -92,7 +94,7 @@ seek_child go out q cs none = end
 seek_child go out q cs (some c) = or_beside Onward out q cs c.index (go c.item.value)
 
 abbrev pub seek_page : {P : Type 0} → Key → (ℕ → Move P) → (ℕ → Move P) → View P → ℕ → Move P
-seek_page key go out (bad number element common) q = refused number q element common
+seek_page key go out (bad refusal element common) q = refused refusal q element common
 seek_page key go out (branch cs) q = seek_child go out q cs (leading cs key 0)
 seek_page key go out (leaf es) q = entry_at q (not_below es key 0)
 
@@ -107,7 +109,7 @@ follow_child go q i none = lacking
 follow_child go q i (some c) = below (step q i) (go c.value)
 
 abbrev pub follow_page : {P : Type 0} → (ℕ → Move P) → View P → ℕ → ℕ → List Step → Move P
-follow_page go (bad number element common) q i path = refused number q element common
+follow_page go (bad refusal element common) q i path = refused refusal q element common
 follow_page go (branch cs) q i path = follow_child go q i (nth cs i)
 follow_page go (leaf es) q i path = follow_leaf q i path (nth es i)
 
@@ -117,7 +119,7 @@ beside_child way go out q cs i none = end
 beside_child way go out q cs i (some c) = or_beside way out q cs i (go c.value)
 
 abbrev pub beside_page : {P : Type 0} → Direction → (ℕ → Move P) → (ℕ → Move P) → View P → ℕ → ℕ → Move P
-beside_page way go out (bad number element common) q i = end
+beside_page way go out (bad refusal element common) q i = end
 beside_page way go out (branch cs) q i = beside_child way go out q cs i (nth cs i)
 beside_page way go out (leaf es) q i = entry_at q (beside way es i)
 
@@ -125,29 +127,29 @@ beside_page way go out (leaf es) q i = entry_at q (beside way es i)
 abbrev pub and_then : {P : Type 0} → Move P → Move P → Move P
 and_then (at path e) m = m
 and_then end m = end
-and_then (refused number page element common) m = refused number page element common
+and_then (refused refusal page element common) m = refused refusal page element common
 
 -- ---- the tree, by the number of pages and the view of each, as the root's level or below, with at most d levels from page q on
 module _ {P : Type 0} (N : ℕ) (view : ℕ → Bool → View P) where
   -- a page as it is met: rule 2, and then its view
   abbrev pub met : ℕ → Bool → View P
-  met q top = cond (inside N q) (view q top) (bad 2 0 0)
+  met q top = cond (inside N q) (view q top) (bad PageNumber 0 0)
 
   -- the first entry of the tree, or going back the last
   unfoldable pub outer : Direction → ℕ → Bool → ℕ → Move P
-  outer way zero top q = refused 9 q 0 0
+  outer way zero top q = refused TooDeep q 0 0
   outer way (suc d) top q = outer_page way (outer way d false) (met q top) q
 
   -- the first entry whose key is not below this one. Beyond a leaf's last key that is the first entry below the next element of the nearest branch that has one
   unfoldable pub seek : Key → ℕ → Bool → ℕ → Move P
-  seek key zero top q = refused 9 q 0 0
+  seek key zero top q = refused TooDeep q 0 0
   seek key (suc d) top q = seek_page key (seek key d false) (outer Onward d false) (met q top) q
 
   -- the entry of a lent path, whose pages are judged from the root down. Each step's page is the root or the child that the step before it names, else 11,
   -- before the page is read. A path has no more steps than there are levels
   unfoldable pub follow : ℕ → Bool → ℕ → List Step → Move P
   follow d top q [] = lacking
-  follow zero top q (s ∷ path) = refused 9 q 0 0
+  follow zero top q (s ∷ path) = refused TooDeep q 0 0
   follow (suc d) top q (s ∷ path) = cond (eqb s.page q) (follow_page (λ child. follow d false child path) (met q top) q s.index path) lacking
 
   -- the entry beside that of a path: the element beside in its leaf, else the outermost entry below the element beside in the nearest branch that has one

@@ -5,11 +5,10 @@ use mathlib.Core.List.{List}
 use Prim.Native.Nat.{ℕ}
 use native.Mathlib.Omega.{arith}
 use lib.Dec.{ltb}
-use Rattle.page.specs.declared.rules.Verdict.{Verdict}
-use Rattle.page.specs.declared.rules.Verdict.TheVariants.{Sound, Breach}
-use Rattle.page.specs.declared.search.Held.TheVariants as held
+use Rattle.std.specs.Prelude.{Some, None, Ok, Err}
+use Rattle.field.specs.declared.refusal.Refusal.TheVariants.{Argument}
 use Rattle.page.specs.Layout.{count_of, is_leaf}
-use Rattle.page.specs.PageRules.{after_check, lent_check_of}
+use Rattle.page.specs.PageRules.{breach, Verdict, and_then, lent_check_of}
 use Rattle.page.specs.Search.{leaf_of, held_of}
 use Rattle.probe.specs.Probe.{HeldOrdered}
 
@@ -18,8 +17,8 @@ unfolding held_of
 held_ordered P b i = go (lent_check_of P b) (is_leaf b) (ltb i (count_of b))
   where
     go : (v : Verdict) (l x : Bool)
-        → HeldOrdered (after_check v held.Refused (cond l (cond x (held.Here (leaf_of b i)) held.Nothing) (held.Refused 11 0 0)))
-    go (Breach number element common) l x = tt
-    go Sound false x = tt
-    go Sound true false = tt
-    go Sound true true = (omega arith, omega arith)
+        → HeldOrdered (and_then v (cond l (Ok (cond x (Some (leaf_of b i)) None)) (Err (breach Argument 0 0))))
+    go (Err v) l x = tt
+    go (Ok u) false x = tt
+    go (Ok u) true false = tt
+    go (Ok u) true true = (omega arith, omega arith)

@@ -1,83 +1,54 @@
 // The calls on a lent freelist table. Those without fields need no room in the answer buffer, which stays.
 ghost use Rattle.std.specs.Prelude.{◌≡◌};
 ghost use Rattle.answer.specs.Answer.{told_number, told_answer, lent_with};
-ghost use Rattle.freelist.specs.Answers.{on_done, answer_number, allocated_fields, listed_fields, measured_fields};
-ghost use Rattle.freelist.specs.Freelist.{fault_of, new_number, new_table, init_number, init_table, free_number, free_table, release_table, allocate_number, allocate_answer, allocate_table, pages_number, pages_answer, pages_list, size_answer};
+ghost use Rattle.field.specs.Refusal.{number_in, on_ok};
+ghost use Rattle.freelist.specs.Answers.{allocated_fields, listed_fields, measured_fields};
+ghost use Rattle.freelist.specs.Freelist.{fault_of, new_check, new_table, init_check, init_table, free_check, free_table, release_table, allocate_answer, allocate_table, pages_answer, pages_list, size_answer};
 
 use answer::give;
-use freelist::{
-    Allocated, Answer, Listed, Measured, allocate, free, init, new, pages, release, size,
-};
+use field::Refusal;
+use freelist::{Allocated, allocate, free, init, new, pages, release, size};
 
-// The number of an answer without fields.
-fn number_of(a: Answer) -> u64
-    ensures { result ≡ answer_number a }
+// The number of an answer without fields, 0 where it is no refusal.
+fn number_in(a: Result<(), Refusal>) -> u64
+    ensures { result ≡ number_in a }
 {
     match a {
-        Answer::Done => 0,
-        Answer::Refused(number) => number,
+        Ok(()) => 0,
+        Err(refusal) => u64::from(refusal),
     }
 }
 
 // The number of an answer of `allocate`, whose fields stand in `answer`: start, N after.
-fn tell_allocated(answer: &mut [u8], a: Allocated) -> u64
+fn tell_allocated(answer: &mut [u8], a: Result<Allocated, Refusal>) -> u64
     ensures { (result ≡ told_number (allocated_fields a) answer.old)
         × (answer.new ≡ told_answer (allocated_fields a) answer.old) }
 {
     match a {
-        Allocated::At(start, after) => {
-            let values = [start, after];
-            give(answer, 0, &values)
-        }
-        Allocated::Refused(number) => {
-            let values = [0; 2];
-            give(answer, number, &values)
-        }
+        Ok(handed) => give(answer, 0, &[handed.start, handed.count]),
+        Err(refusal) => give(answer, u64::from(refusal), &[0; 2]),
     }
 }
 
-// The number of an answer of `pages`, whose field stands in `answer`: ids written.
-fn tell_listed(answer: &mut [u8], a: Listed) -> u64
+// The number of an answer of `pages` or `size`, whose field stands in `answer`: ids written, or size.
+fn tell_value(answer: &mut [u8], a: Result<u64, Refusal>) -> u64
     ensures { (result ≡ told_number (listed_fields a) answer.old)
         × (answer.new ≡ told_answer (listed_fields a) answer.old) }
 {
     match a {
-        Listed::Count(count) => {
-            let values = [count];
-            give(answer, 0, &values)
-        }
-        Listed::Refused(number) => {
-            let values = [0; 1];
-            give(answer, number, &values)
-        }
-    }
-}
-
-// The number of an answer of `size`, whose field stands in `answer`: size.
-fn tell_measured(answer: &mut [u8], a: Measured) -> u64
-    ensures { (result ≡ told_number (measured_fields a) answer.old)
-        × (answer.new ≡ told_answer (measured_fields a) answer.old) }
-{
-    match a {
-        Measured::Bytes(bytes) => {
-            let values = [bytes];
-            give(answer, 0, &values)
-        }
-        Measured::Refused(number) => {
-            let values = [0; 1];
-            give(answer, number, &values)
-        }
+        Ok(value) => give(answer, 0, &[value]),
+        Err(refusal) => give(answer, u64::from(refusal), &[0]),
     }
 }
 
 // The number of a new table, in which all pages are in use.
 #[unsafe(no_mangle)]
 pub extern "C" fn tyvarmos_free_new(table: &mut [u64], answer: &mut [u8]) -> u64
-    ensures { (result ≡ new_number table.old)
-        × (table.new ≡ on_done (new_number table.old) (new_table table.old) table.old)
+    ensures { (result ≡ number_in (new_check table.old))
+        × (table.new ≡ on_ok (new_check table.old) (new_table table.old) table.old)
         × (answer.new ≡ answer.old) }
 {
-    number_of(new(table))
+    number_in(new(table))
 }
 
 // The number of an initial list, whose pages become free.
@@ -88,11 +59,11 @@ pub extern "C" fn tyvarmos_free_init(
     ids: &[u64],
     answer: &mut [u8],
 ) -> u64
-    ensures { (result ≡ init_number table.old n ids.now)
-        × (table.new ≡ on_done (init_number table.old n ids.now) (init_table table.old ids.now) table.old)
+    ensures { (result ≡ number_in (init_check table.old n ids.now))
+        × (table.new ≡ on_ok (init_check table.old n ids.now) (init_table table.old ids.now) table.old)
         × (answer.new ≡ answer.old) }
 {
-    number_of(init(table, n, ids))
+    number_in(init(table, n, ids))
 }
 
 // The number of a free of `count` pages from `p` on, which become pending under `t`.
@@ -105,21 +76,21 @@ pub extern "C" fn tyvarmos_free_pages(
     t: u64,
     answer: &mut [u8],
 ) -> u64
-    ensures { (result ≡ free_number table.old n p count)
-        × (table.new ≡ on_done (free_number table.old n p count) (free_table table.old p count t) table.old)
+    ensures { (result ≡ number_in (free_check table.old n p count))
+        × (table.new ≡ on_ok (free_check table.old n p count) (free_table table.old p count t) table.old)
         × (answer.new ≡ answer.old) }
 {
-    number_of(free(table, n, p, count, t))
+    number_in(free(table, n, p, count, t))
 }
 
 // The number of a release of every page that is pending under a number below `t`.
 #[unsafe(no_mangle)]
 pub extern "C" fn tyvarmos_release(table: &mut [u64], n: u64, t: u64, answer: &mut [u8]) -> u64
-    ensures { (result ≡ fault_of table.old n)
-        × (table.new ≡ on_done (fault_of table.old n) (release_table table.old n t) table.old)
+    ensures { (result ≡ number_in (fault_of table.old n))
+        × (table.new ≡ on_ok (fault_of table.old n) (release_table table.old n t) table.old)
         × (answer.new ≡ answer.old) }
 {
-    number_of(release(table, n, t))
+    number_in(release(table, n, t))
 }
 
 // The number of pages handed out for `bytes` at the page size `p`, with the fields start and N after.
@@ -134,13 +105,12 @@ pub extern "C" fn tyvarmos_allocate(
     ensures { (result ≡ told_number (allocated_fields (allocate_answer table.old n p bytes)) answer.old)
         × (answer.new ≡ told_answer (allocated_fields (allocate_answer table.old n p bytes)) answer.old)
         × (table.new ≡ lent_with 2 answer.old table.old
-        (on_done (allocate_number table.old n p bytes) (allocate_table table.old n p bytes) table.old)) }
+        (on_ok (allocate_answer table.old n p bytes) (allocate_table table.old n p bytes) table.old)) }
 {
     if answer.len() / 8 < 2 {
-        return 1;
+        return u64::from(Refusal::Geometry);
     }
-    let a = allocate(table, n, p, bytes);
-    tell_allocated(answer, a)
+    tell_allocated(answer, allocate(table, n, p, bytes))
 }
 
 // The number of the listing of free and pending ids in `ids`, with the field ids written.
@@ -154,13 +124,12 @@ pub extern "C" fn tyvarmos_free_list(
     ensures { (result ≡ told_number (listed_fields (pages_answer table.now n ids.old)) answer.old)
         × (answer.new ≡ told_answer (listed_fields (pages_answer table.now n ids.old)) answer.old)
         × (ids.new ≡ lent_with 1 answer.old ids.old
-        (on_done (pages_number table.now n ids.old) (pages_list table.now n ids.old) ids.old)) }
+        (on_ok (pages_answer table.now n ids.old) (pages_list table.now n ids.old) ids.old)) }
 {
     if answer.len() / 8 < 1 {
-        return 1;
+        return u64::from(Refusal::Geometry);
     }
-    let a = pages(table, n, ids);
-    tell_listed(answer, a)
+    tell_value(answer, pages(table, n, ids))
 }
 
 // The number of the freelist's size, with the field size.
@@ -169,5 +138,5 @@ pub extern "C" fn tyvarmos_free_size(table: &[u64], n: u64, answer: &mut [u8]) -
     ensures { (result ≡ told_number (measured_fields (size_answer table.now n)) answer.old)
         × (answer.new ≡ told_answer (measured_fields (size_answer table.now n)) answer.old) }
 {
-    tell_measured(answer, size(table, n))
+    tell_value(answer, size(table, n))
 }

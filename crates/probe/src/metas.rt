@@ -5,20 +5,21 @@ ghost use Rattle.meta.specs.Fnv.{fnv1a_of};
 ghost use Rattle.meta.specs.Meta.{meta_of, read_of, write_of, page_left, meta_read_fields, meta_written_fields};
 
 use answer::give;
+use field::Refusal;
 use meta::fnv::fnv1a;
-use meta::{Meta, MetaRead, MetaWritten, read_meta, write_meta};
+use meta::{Meta, read_meta, write_meta};
 
 // The number of a meta that was read, whose ten fields stand in `answer` in their order.
-fn tell_read(answer: &mut [u8], a: MetaRead) -> u64
-    ensures { (result ≡ told_number (meta_read_fields a) answer.old)
-        × (answer.new ≡ told_answer (meta_read_fields a) answer.old) }
+fn tell_read(answer: &mut [u8], read: Result<Meta, Refusal>) -> u64
+    ensures { (result ≡ told_number (meta_read_fields read) answer.old)
+        × (answer.new ≡ told_answer (meta_read_fields read) answer.old) }
 {
-    match a {
-        MetaRead::Read(m) => {
+    match read {
+        Ok(m) => {
             let values = [
-                m.meta_page as u64,
-                m.magic as u64,
-                m.version as u64,
+                u64::from(m.meta_page),
+                u64::from(m.magic),
+                u64::from(m.version),
                 m.pagesize,
                 m.root_page,
                 m.next_int,
@@ -29,27 +30,18 @@ fn tell_read(answer: &mut [u8], a: MetaRead) -> u64
             ];
             give(answer, 0, &values)
         }
-        MetaRead::Refused(number) => {
-            let values = [0; 10];
-            give(answer, number, &values)
-        }
+        Err(refusal) => give(answer, u64::from(refusal), &[0; 10]),
     }
 }
 
 // The number of a meta that was written, whose hash stands in `answer`.
-fn tell_written(answer: &mut [u8], a: MetaWritten) -> u64
-    ensures { (result ≡ told_number (meta_written_fields a) answer.old)
-        × (answer.new ≡ told_answer (meta_written_fields a) answer.old) }
+fn tell_written(answer: &mut [u8], written: Result<u64, Refusal>) -> u64
+    ensures { (result ≡ told_number (meta_written_fields written) answer.old)
+        × (answer.new ≡ told_answer (meta_written_fields written) answer.old) }
 {
-    match a {
-        MetaWritten::Written(hash) => {
-            let values = [hash];
-            give(answer, 0, &values)
-        }
-        MetaWritten::Refused(number) => {
-            let values = [0; 1];
-            give(answer, number, &values)
-        }
+    match written {
+        Ok(hash) => give(answer, 0, &[hash]),
+        Err(refusal) => give(answer, u64::from(refusal), &[0]),
     }
 }
 
@@ -83,7 +75,7 @@ pub extern "C" fn tyvarmos_meta_write(
         (page_left page.old (meta_of meta_page magic version pagesize root_page next_int num_pages freelist_page tx_id))) }
 {
     if answer.len() / 8 < 1 {
-        return 1;
+        return u64::from(Refusal::Geometry);
     }
     let m = Meta {
         meta_page,
@@ -97,8 +89,8 @@ pub extern "C" fn tyvarmos_meta_write(
         tx_id,
         hash: 0,
     };
-    let a = write_meta(page, m);
-    tell_written(answer, a)
+    let written = write_meta(page, m);
+    tell_written(answer, written)
 }
 
 // 0, with the FNV-1a hash of the bytes as the field hash.
@@ -107,6 +99,5 @@ pub extern "C" fn tyvarmos_fnv1a(bytes: &[u8], answer: &mut [u8]) -> u64
     ensures { (result ≡ told_number (0 ∷ fnv1a_of bytes.now ∷ []) answer.old)
         × (answer.new ≡ told_answer (0 ∷ fnv1a_of bytes.now ∷ []) answer.old) }
 {
-    let values = [fnv1a(bytes)];
-    give(answer, 0, &values)
+    give(answer, 0, &[fnv1a(bytes)])
 }

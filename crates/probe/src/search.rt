@@ -6,9 +6,8 @@ ghost use Rattle.page.specs.Search.{index_of, index_page_of, held_of};
 ghost use Rattle.probe.specs.Probe.{HeldOrdered};
 
 use answer::give;
-use field::number::{flag, wide};
 use page::search::{entry, index, index_page};
-use page::{Child, Held, Indexed};
+use page::{Breach, Leaf};
 
 // The number of `index`'s answer, whose fields stand in `answer`: index, found, page, element, common.
 #[unsafe(no_mangle)]
@@ -17,13 +16,13 @@ pub extern "C" fn tyvarmos_index(block: &[u8], p: usize, key: &[u8], answer: &mu
         × (answer.new ≡ told_answer (indexed_fields (index_of p block.now key.now)) answer.old) }
 {
     match index(block, p, key) {
-        Indexed::At(place) => {
-            let values = [place.at as u64, flag(place.found), 0, 0, 0];
+        Ok(place) => {
+            let values = [place.at as u64, u64::from(place.found), 0, 0, 0];
             give(answer, 0, &values)
         }
-        Indexed::Refused(number, element, common) => {
-            let values = [0, 0, 0, element as u64, common as u64];
-            give(answer, number, &values)
+        Err(breach) => {
+            let values = [0, 0, 0, breach.element as u64, breach.common as u64];
+            give(answer, u64::from(breach.refusal), &values)
         }
     }
 }
@@ -40,30 +39,30 @@ pub extern "C" fn tyvarmos_index_page(
         × (answer.new ≡ told_answer (child_fields (index_page_of p block.now index)) answer.old) }
 {
     match index_page(block, p, index) {
-        Child::Page(page) => {
+        Ok(page) => {
             let values = [page as u64, 0, 0, 0];
             give(answer, 0, &values)
         }
-        Child::Refused(number, element, common) => {
-            let values = [0, 0, element as u64, common as u64];
-            give(answer, number, &values)
+        Err(breach) => {
+            let values = [0, 0, breach.element as u64, breach.common as u64];
+            give(answer, u64::from(breach.refusal), &values)
         }
     }
 }
 
 // The number of `entry`'s answer, with its fields.
-fn tell_held(answer: &mut [u8], held: Held) -> u64
+fn tell_held(answer: &mut [u8], held: Result<Option<Leaf>, Breach>) -> u64
     requires { HeldOrdered held }
     ensures { (result ≡ told_number (held_fields held) answer.old)
         × (answer.new ≡ told_answer (held_fields held) answer.old) }
 {
     match held {
-        Held::Here(e) => {
+        Ok(Some(e)) => {
             let key_length = (e.value - e.key) as u64;
             let value_length = (e.end - e.value) as u64;
             let values = [
                 1,
-                wide(e.kind),
+                u64::from(e.kind),
                 e.key as u64,
                 key_length,
                 e.value as u64,
@@ -74,13 +73,23 @@ fn tell_held(answer: &mut [u8], held: Held) -> u64
             ];
             give(answer, 0, &values)
         }
-        Held::Nothing => {
+        Ok(None) => {
             let values = [0; 9];
             give(answer, 0, &values)
         }
-        Held::Refused(number, element, common) => {
-            let values = [0, 0, 0, 0, 0, 0, 0, element as u64, common as u64];
-            give(answer, number, &values)
+        Err(breach) => {
+            let values = [
+                0,
+                0,
+                0,
+                0,
+                0,
+                0,
+                0,
+                breach.element as u64,
+                breach.common as u64,
+            ];
+            give(answer, u64::from(breach.refusal), &values)
         }
     }
 }

@@ -8,7 +8,9 @@ ghost use Rattle.cuts.specs.Parted.{split_of, block_cuts, list_left};
 ghost use Rattle.split.specs.Write.{split_write_of, pack_all, block_pieces, out_left};
 
 use answer::give;
-use cuts::{Parted, split};
+use cuts::split;
+use field::Refusal;
+use page::Breach;
 use split::{Written, split_write};
 
 // How many fields the answer of `split` has, and that of `split_write`.
@@ -17,35 +19,32 @@ const PARTED_FIELDS: usize = 4;
 const WRITTEN_FIELDS: usize = 5;
 
 // The number of `split`'s answer, with its fields.
-fn tell_parted(answer: &mut [u8], parted: Parted) -> u64
+fn tell_parted(answer: &mut [u8], parted: Result<usize, Breach>) -> u64
     ensures { (result ≡ told_number (parted_fields parted) answer.old)
         × (answer.new ≡ told_answer (parted_fields parted) answer.old) }
 {
     match parted {
-        Parted::Cuts(made) => {
-            let values = [made as u64, 0, 0, 0];
-            give(answer, 0, &values)
-        }
-        Parted::Refused(number, element, common) => {
-            let values = [0, 0, element as u64, common as u64];
-            give(answer, number, &values)
+        Ok(made) => give(answer, 0, &[made as u64, 0, 0, 0]),
+        Err(breach) => {
+            let values = [0, 0, breach.element as u64, breach.common as u64];
+            give(answer, u64::from(breach.refusal), &values)
         }
     }
 }
 
 // The number of `split_write`'s answer, with its fields.
-fn tell_written(answer: &mut [u8], written: Written) -> u64
+fn tell_written(answer: &mut [u8], written: Result<Written, Breach>) -> u64
     ensures { (result ≡ told_number (written_fields written) answer.old)
         × (answer.new ≡ told_answer (written_fields written) answer.old) }
 {
     match written {
-        Written::Pieces(bytes, pieces) => {
-            let values = [bytes as u64, pieces as u64, 0, 0, 0];
+        Ok(written) => {
+            let values = [written.bytes as u64, written.pieces as u64, 0, 0, 0];
             give(answer, 0, &values)
         }
-        Written::Refused(number, element, common) => {
-            let values = [0, 0, 0, element as u64, common as u64];
-            give(answer, number, &values)
+        Err(breach) => {
+            let values = [0, 0, 0, breach.element as u64, breach.common as u64];
+            give(answer, u64::from(breach.refusal), &values)
         }
     }
 }
@@ -59,7 +58,7 @@ pub extern "C" fn tyvarmos_split(block: &[u8], p: usize, cuts: &mut [u64], answe
         (list_left (split_of p block.now (length cuts.old)) (block_cuts p block.now) cuts.old)) }
 {
     if answer.len() / 8 < PARTED_FIELDS {
-        return 1;
+        return u64::from(Refusal::Geometry);
     }
     let told = split(block, p, cuts);
     tell_parted(answer, told)
@@ -82,7 +81,7 @@ pub extern "C" fn tyvarmos_split_write(
         (pack_all (is_leaf block.now) p pages.now (block_pieces p block.now)) out.old)) }
 {
     if answer.len() / 8 < WRITTEN_FIELDS {
-        return 1;
+        return u64::from(Refusal::Geometry);
     }
     let told = split_write(block, p, n, pages, out);
     tell_written(answer, told)

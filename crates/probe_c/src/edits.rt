@@ -1,11 +1,12 @@
 // The size of a node and its edits.
-ghost use Rattle.std.specs.Prelude.{◌≡◌, true, false, not, eqb};
+ghost use Rattle.std.specs.Prelude.{◌≡◌, true, false};
 ghost use Rattle.answer.specs.Answer.{told_number, told_answer, lent_with};
 ghost use Rattle.page.specs.Layout.{id_of};
 ghost use Rattle.node.specs.Numbers.{edited_fields, deleted_fields, sized_fields};
 ghost use Rattle.node.specs.Measure.{size_of, needs_merging_of};
 ghost use Rattle.node.specs.Edit.{output, new_leaf_of, new_branch_of, insert_of, delete_of, deleted_answer, insert_branch_of};
 ghost use Rattle.node.specs.Edit.{answer as edited_of};
+ghost use Rattle.probe.specs.Probe.{original_of};
 
 // The number of the answers of `size` and `needs_merging`, whose fields stand in `answer`: size, pages needed, merging wanted, page, element, common.
 #[unsafe(no_mangle)]
@@ -93,11 +94,11 @@ pub extern "C" fn tyvarmos_insert_branch(
     answer: &mut [u8],
 ) -> u64
     ensures { (result ≡ told_number (edited_fields (edited_of false p
-        (insert_branch_of p block.now (not (eqb has 0)) original.now key.now child out.old))) answer.old)
+        (insert_branch_of p block.now (original_of has original.now) key.now child out.old))) answer.old)
         × (answer.new ≡ told_answer (edited_fields (edited_of false p
-        (insert_branch_of p block.now (not (eqb has 0)) original.now key.now child out.old))) answer.old)
+        (insert_branch_of p block.now (original_of has original.now) key.now child out.old))) answer.old)
         × (out.new ≡ lent_with 4 answer.old out.old (output false (id_of block.now) p out.old
-        (insert_branch_of p block.now (not (eqb has 0)) original.now key.now child out.old))) }
+        (insert_branch_of p block.now (original_of has original.now) key.now child out.old))) }
 {
     probe::edits::tyvarmos_insert_branch(block, p, has, original, key, child, out, answer)
 }

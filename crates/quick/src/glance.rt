@@ -1,17 +1,17 @@
 // One page of a quick lookup.
-ghost use Rattle.std.specs.Prelude.{◌≡◌, true, false, cond, ◌+◌, ◌^◌, ◌≤◌, ◌<◌, length};
+ghost use Rattle.std.specs.Prelude.{◌≡◌, true, false, cond, Err, ◌+◌, ◌^◌, ◌≤◌, ◌<◌, length};
 ghost use Rattle.page.specs.Layout.{element_at, value_end};
-ghost use Rattle.page.specs.PageRules.{table_bad};
+ghost use Rattle.page.specs.PageRules.{table_bad, breach};
 ghost use Rattle.view.specs.Geometry.{SoundSizes};
 ghost use Rattle.view.specs.View.{value_item};
-ghost use Rattle.lookup.specs.declared.descent.Step.TheVariants.{Breach};
 ghost use Rattle.quick.specs.Halving.{halves_of};
 ghost use Rattle.quick.specs.Quick.{says_of, page_says};
 
 use super::branch_halving::halve_branch;
-use super::halving::Halved;
 use super::leaf_halving::halve_leaf;
+use field::Refusal;
 use lookup::descent::Step;
+use page::breach::Breach;
 use page::layout::{child, count, is_leaf, key_at, key_size, kind, value_size};
 use page::rules::{header_bad, table_bad};
 use view::Value;
@@ -30,45 +30,60 @@ fn value_at(b: &[u8], start: usize, i: usize) -> Value
     }
 }
 
-// What a leaf that starts at byte `start` of the image, as the root or not, says of a key.
-fn leaf_says(b: &[u8], start: usize, top: bool, key: &[u8]) -> Step
+// The breach of rule 6 by an element.
+fn element_breach(element: usize) -> Breach
+    ensures { result ≡ breach Refusal.Element element 0 }
+{
+    Breach {
+        refusal: Refusal::Element,
+        element,
+        common: 0,
+    }
+}
+
+// What a leaf that starts at byte `start` of the image, as the root or not, says of a key, or its first breach.
+fn leaf_says(b: &[u8], start: usize, top: bool, key: &[u8]) -> Result<Step, Breach>
     requires { (32 ≤ length b.now) × (start + length b.now < 2 ^ 64) }
-    ensures { result ≡ cond (table_bad true top b.now) (Breach 4 0 0)
+    ensures { result ≡ cond (table_bad true top b.now) (Err (breach Refusal.Table 0 0))
         (says_of true start b.now (halves_of true b.now key.now)) }
 {
     if table_bad(b, true, top) {
-        return Step::Breach(4, 0, 0);
+        return Err(Breach::from(Refusal::Table));
     }
-    match halve_leaf(b, count(b), key) {
-        Halved::Found(i) => Step::Found(value_at(b, start, i)),
-        Halved::Place(_) => Step::Absent,
-        Halved::Breach(i) => Step::Breach(5, i, 0),
+    let place = halve_leaf(b, count(b), key).map_err(element_breach)?;
+    if place.found {
+        return Ok(Step::Found(value_at(b, start, place.at)));
     }
+    Ok(Step::Absent)
 }
 
-// What a branch says of a key.
-fn branch_says(b: &[u8], key: &[u8]) -> Step
+// What a branch says of a key, or its first breach.
+fn branch_says(b: &[u8], key: &[u8]) -> Result<Step, Breach>
     requires { 32 ≤ length b.now }
-    ensures { result ≡ cond (table_bad false false b.now) (Breach 4 0 0)
+    ensures { result ≡ cond (table_bad false false b.now) (Err (breach Refusal.Table 0 0))
         (says_of false 0 b.now (halves_of false b.now key.now)) }
 {
     if table_bad(b, false, false) {
-        return Step::Breach(4, 0, 0);
+        return Err(Breach::from(Refusal::Table));
     }
-    match halve_branch(b, count(b), key) {
-        Halved::Found(i) => Step::Down(child(b, i)),
-        Halved::Place(i) => Step::Down(child(b, i)),
-        Halved::Breach(i) => Step::Breach(5, i, 0),
-    }
+    let place = halve_branch(b, count(b), key).map_err(element_breach)?;
+    Ok(Step::Down(child(b, place.at)))
 }
 
-// What page `q`, as the root or not, says of a key.
-pub fn page_says(image: &[u8], p: usize, n: usize, q: usize, top: bool, key: &[u8]) -> Step
+// What page `q`, as the root or not, says of a key, or its first breach.
+pub fn page_says(
+    image: &[u8],
+    p: usize,
+    n: usize,
+    q: usize,
+    top: bool,
+    key: &[u8],
+) -> Result<Step, Breach>
     requires { SoundSizes image.now p n × (q < n) }
     ensures { result ≡ page_says image.now p n key.now q top }
 {
     if header_bad(from_page(image, p, n, q), n, q) {
-        return Step::Breach(3, 0, 0);
+        return Err(Breach::from(Refusal::Header));
     }
     let b = block(image, p, n, q);
     if is_leaf(b) {

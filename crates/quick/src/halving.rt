@@ -1,21 +1,15 @@
 // What the halving of a block comes to.
-ghost use Rattle.std.specs.Prelude.{◌≡◌, ◌-◌};
-ghost use Rattle.quick.specs.declared.halving.Halved.TheVariants.{Place};
+ghost use Rattle.std.specs.Prelude.{◌≡◌};
+ghost use Rattle.quick.specs.Halving.{before};
 
-// The element with the key, the place where there is none, or an element that breaks rule 6.
-#[derive(Clone, Copy)]
-pub enum Halved {
-    Found(usize),
-    Place(usize),
-    Breach(usize),
-}
+use page::search::Place;
 
-// The place with none equal: low less one, never below 0.
-pub fn place_at(low: usize) -> Halved
-    ensures { result ≡ Place (low - 1) }
+// The place of a key that no element has: low less one, never below 0.
+pub fn place_at(low: usize) -> Place
+    ensures { result ≡ before low }
 {
-    if low == 0 {
-        return Halved::Place(0);
+    Place {
+        at: low.saturating_sub(1),
+        found: false,
     }
-    Halved::Place(low - 1)
 }

@@ -1,15 +1,16 @@
-// The halving of a leaf. Each kind has a loop of its own, so that none tests it.
+// The halving of a leaf: its loop closes in by halves, and counts nothing. Each kind has a loop of its own, for speed (docs/DECISIONS.md), so that none tests it.
 ghost use Rattle.std.specs.Prelude.{◌≡◌, true, ◌≤◌, length};
 ghost use Rattle.page.specs.Layout.{count_of, table_end};
 ghost use Rattle.quick.specs.Halving.{halves_of};
 
-use super::halving::{Halved, place_at};
-use field::Order;
+use super::halving::place_at;
 use page::layout::{HEADER_SIZE, LEAF_SIZE, key_order};
 use page::rules::leaf_bad;
+use page::search::Place;
+use std::cmp::Ordering;
 
-// Where a key is among the `n` of a leaf, each element looked at judged by rule 6.
-pub fn halve_leaf(b: &[u8], n: usize, key: &[u8]) -> Halved
+// Where a key is among the `n` of a leaf, each element looked at judged by rule 6; or the element that breaks it.
+pub fn halve_leaf(b: &[u8], n: usize, key: &[u8]) -> Result<Place, usize>
     requires { (n ≡ count_of b.now) × (table_end true b.now ≤ length b.now) }
     ensures { result ≡ halves_of true b.now key.now }
 {
@@ -19,19 +20,18 @@ pub fn halve_leaf(b: &[u8], n: usize, key: &[u8]) -> Halved
     while low < high {
         let middle = (low + high) / 2;
         if leaf_bad(b, end, middle) {
-            return Halved::Breach(middle);
+            return Err(middle);
         }
         match key_order(b, true, middle, key) {
-            Order::Lower => {
-                low = middle + 1;
+            Ordering::Less => low = middle + 1,
+            Ordering::Equal => {
+                return Ok(Place {
+                    at: middle,
+                    found: true,
+                });
             }
-            Order::Equal => {
-                return Halved::Found(middle);
-            }
-            Order::Higher => {
-                high = middle;
-            }
+            Ordering::Greater => high = middle,
         }
     }
-    place_at(low)
+    Ok(place_at(low))
 }

@@ -11,42 +11,39 @@ ghost use Rattle.std.specs.Prelude.{◌≡◌};
 ghost use Rattle.lookup.specs.Lookup.{value_in};
 ghost use Rattle.quick.specs.Quick.{quick_of};
 
+use field::Refusal;
 use glance::page_says;
 use lookup::descent::Step;
-use lookup::{Looked, refused};
-use view::LEVELS;
+use lookup::{fault, on_page};
 use view::image::{geometry_bad, inside};
+use view::{Fault, LEVELS, Value};
 
 // The entry with this key in the tree of a root, that there is none, or the first breach met on the way.
-pub fn quick(image: &[u8], p: usize, n: usize, root: usize, key: &[u8]) -> Looked
+pub fn quick(
+    image: &[u8],
+    p: usize,
+    n: usize,
+    root: usize,
+    key: &[u8],
+) -> Result<Option<Value>, Fault>
     ensures { result ≡ quick_of image.now p n root key.now }
 {
     if geometry_bad(image, p, n) {
-        return refused(1, 0, 0, 0);
+        return Err(fault(Refusal::Geometry, 0));
     }
     let mut q = root;
-    let mut left = LEVELS;
-    while 0 < left {
+    for depth in 0..LEVELS {
         if !inside(n, q) {
-            return refused(2, q, 0, 0);
+            return Err(fault(Refusal::PageNumber, q));
         }
-        match page_says(image, p, n, q, left == LEVELS, key) {
-            Step::Down(child) => {
-                q = child;
-                left -= 1;
-            }
-            Step::Found(value) => {
-                return Looked::Found(value);
-            }
-            Step::Absent => {
-                return Looked::Absent;
-            }
-            Step::Breach(number, i, common) => {
-                return refused(number, q, i, common);
-            }
+        match page_says(image, p, n, q, depth == 0, key) {
+            Ok(Step::Down(child)) => q = child,
+            Ok(Step::Found(value)) => return Ok(Some(value)),
+            Ok(Step::Absent) => return Ok(None),
+            Err(breach) => return Err(on_page(q, breach)),
         }
     }
-    refused(9, q, 0, 0)
+    Err(fault(Refusal::TooDeep, q))
 }
 
 // The value's bytes, as a part of the image; absent or refused gives an empty part.
@@ -54,12 +51,7 @@ pub fn quick_value<'a>(image: &'a [u8], p: usize, n: usize, root: usize, key: &[
     ensures { result.now ≡ value_in image.now (quick_of image.now p n root key.now) }
 {
     match quick(image, p, n, root, key) {
-        Looked::Found(value) => {
-            let from = value.place;
-            let to = from + value.length;
-            &image[from..to]
-        }
-        Looked::Absent => &image[0..0],
-        Looked::Refused(_) => &image[0..0],
+        Ok(Some(value)) => &image[value.place..value.place + value.length],
+        Ok(None) | Err(_) => &image[0..0],
     }
 }

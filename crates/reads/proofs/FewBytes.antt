@@ -15,15 +15,14 @@ use Rattle.walk.specs.Tree.{Key, inside}
 use Rattle.view.specs.Geometry.{geometry_bad, SoundSizes}
 use Rattle.view.proofs.GeometryLaws.{geometry_sizes}
 use Rattle.view.proofs.ViewFrame.{header_ends, block_length}
-use Rattle.lookup.specs.declared.descent.Step.{Step}
-use Rattle.lookup.specs.declared.descent.Step.TheVariants.{Down, Found, Absent, Breach}
-use Rattle.quick.specs.declared.halving.Halved.{Halved}
-use Rattle.quick.specs.declared.halving.Halved.TheVariants as halved
-use Rattle.quick.specs.Halving.{halves_of}
+use Rattle.lookup.specs.declared.descent.Step.TheVariants.{Down, Found, Absent}
+use Rattle.lookup.specs.Descent.{Stepped}
+use Rattle.quick.specs.Halving.{Halved, halves_of}
 use Rattle.quick.specs.Quick.{page_says}
 use Rattle.reads.specs.Reads.{looks_at, total, Counted, number_runs, key_runs, element_runs, child_runs, block_runs, page_runs, onward_runs, descent_runs, reads_of}
 use Rattle.reads.proofs.RunLaws.{total-append}
 use Rattle.reads.proofs.FewElements.{few_elements}
+use Rattle.std.specs.Prelude.{Ok, Err}
 
 -- ---- a block
 number_bytes : (leaf : Bool) (start i : ℕ) → total (number_runs leaf start i) ≤ 25
@@ -51,9 +50,8 @@ element_bytes leaf start b key (i ∷ is) =
 
 child_bytes : (leaf : Bool) (start : ℕ) (h : Halved) → total (child_runs leaf start h) ≤ 8
 unfolding total
-child_bytes false start (halved.Found i) = omega arith
-child_bytes false start (halved.Place i) = omega arith
-child_bytes false start (halved.Breach i) = omega arith
+child_bytes false start (Ok place) = omega arith
+child_bytes false start (Err i) = omega arith
 child_bytes true start h = omega arith
 
 module _ (key : Key) (k : ℕ) where
@@ -99,12 +97,12 @@ module _ (image : List ℕ) (P N : ℕ) (key : Key) (k : ℕ) where
   counted_descent h zero top q = omega arith
   counted_descent h (suc d) top q = go (counted_descent h d false) (inside N q) refl
     where
-      onwards : ((child : ℕ) → total (descent_runs image P N key d false child) ≤ d * most) → (s : Step)
+      onwards : ((child : ℕ) → total (descent_runs image P N key d false child) ≤ d * most) → (s : Stepped)
           → total (onward_runs (descent_runs image P N key d false) s) ≤ d * most
-      onwards ih (Down child) = ih child
-      onwards ih (Found v) = omega arith
-      onwards ih Absent = omega arith
-      onwards ih (Breach number element common) = omega arith
+      onwards ih (Ok (Down child)) = ih child
+      onwards ih (Ok (Found v)) = omega arith
+      onwards ih (Ok Absent) = omega arith
+      onwards ih (Err b) = omega arith
 
       go : ((child : ℕ) → total (descent_runs image P N key d false child) ≤ d * most) → (t : Bool) → inside N q ≡ t
           → total (descent_runs image P N key (suc d) top q) ≤ suc d * most

@@ -9,8 +9,8 @@ use native.Mathlib.Omega.{arith}
 use borrow.Author.Tests.{ltb-true}
 use lib.Dec.{ltb}
 use lib.ListN.{length}
-use Rattle.field.specs.declared.order.Order.{Order}
-use Rattle.field.specs.declared.order.Order.TheVariants.{Lower, Equal, Higher}
+use Rattle.std.specs.declared.cmp.Ordering.{Ordering}
+use Rattle.std.specs.declared.cmp.Ordering.TheVariants.{Less, Equal, Greater}
 use Rattle.field.specs.Order.{order_of}
 use Rattle.page.specs.Layout.{count_of, key_of}
 use Rattle.page.specs.PageRules.{element_bad}
@@ -19,14 +19,14 @@ use Rattle.quick.specs.Halving.{middle, by_order}
 use Rattle.reads.specs.Reads.{middles, looks_at}
 
 -- the middle, and then one half or nothing
-one_half : (i : ℕ) (bad : Bool) (o : Order) (lower higher : List ℕ) (k : ℕ)
+one_half : (i : ℕ) (bad : Bool) (o : Ordering) (lower higher : List ℕ) (k : ℕ)
     → length lower ≤ k
     → length higher ≤ k
     → length (i ∷ cond bad [] (by_order o lower [] higher)) ≤ suc k
 one_half i true o lower higher k l m = omega arith
-one_half i false Lower lower higher k l m = omega arith
+one_half i false Less lower higher k l m = omega arith
 one_half i false Equal lower higher k l m = omega arith
-one_half i false Higher lower higher k l m = omega arith
+one_half i false Greater lower higher k l m = omega arith
 
 module _ (leaf : Bool) (b : List ℕ) (key : Key) where
   few_middles : (turns k low high : ℕ) → high - low < 2 ^ k → length (middles leaf b key turns low high) ≤ k

@@ -9,8 +9,8 @@ use native.Mathlib.Omega.{arith}
 use borrow.Author.Tests.{ltb-true}
 use lib.Dec.{ltb}
 use lib.ListN.{length, drop}
-use Rattle.field.specs.declared.order.Order.{Order}
-use Rattle.field.specs.declared.order.Order.TheVariants.{Lower, Equal, Higher}
+use Rattle.std.specs.declared.cmp.Ordering.{Ordering}
+use Rattle.std.specs.declared.cmp.Ordering.TheVariants.{Less, Equal, Greater}
 use Rattle.field.specs.Order.{order_of}
 use Rattle.page.specs.Layout.{count_of, is_leaf, element_size, element_at, table_end, key_of}
 use Rattle.page.specs.PageRules.{header_bad, table_bad, element_bad, block_of}
@@ -22,37 +22,35 @@ use Rattle.walk.proofs.Slots.{every_append}
 use Rattle.view.specs.Geometry.{geometry_bad, SoundSizes}
 use Rattle.view.proofs.GeometryLaws.{inside_parts, geometry_sizes}
 use Rattle.view.proofs.ViewFrame.{header_ends, block_end, block_length}
-use Rattle.lookup.specs.declared.descent.Step.{Step}
-use Rattle.lookup.specs.declared.descent.Step.TheVariants as step
-use Rattle.quick.specs.declared.halving.Halved.{Halved}
-use Rattle.quick.specs.declared.halving.Halved.TheVariants.{Found, Place, Breach}
-use Rattle.quick.specs.Halving.{middle, by_order, halve, halves_of}
+use Rattle.lookup.specs.declared.descent.Step.TheVariants.{Down, Found, Absent}
+use Rattle.lookup.specs.Descent.{Stepped}
+use Rattle.quick.specs.Halving.{Halved, here, middle, by_order, halve, halves_of}
 use Rattle.quick.specs.Quick.{page_says}
 use Rattle.reads.specs.Reads.{middles, looks_at, Run, header_runs, number_runs, key_runs, element_runs, child_runs, block_runs, page_runs, onward_runs, descent_runs, reads_of}
 use Rattle.reads.proofs.RunLaws.{}
+use Rattle.std.specs.Prelude.{Ok, Err}
 
 -- ---- halving stays below n
 
 -- what halving comes to, but for a breach, is a place below n
 abbrev Within : ℕ → Halved → Type 0
-Within n (Found i) = i < n
-Within n (Place i) = i < n
-Within n (Breach i) = Unit
+Within n (Ok place) = place.at < n
+Within n (Err i) = Unit
 
 module _ (n : ℕ) where
-  middle_first : (i : ℕ) (bad : Bool) (o : Order) (lower higher : List ℕ) → i < n → Every (λ i. i < n) lower → Every (λ i. i < n) higher
+  middle_first : (i : ℕ) (bad : Bool) (o : Ordering) (lower higher : List ℕ) → i < n → Every (λ i. i < n) lower → Every (λ i. i < n) higher
       → Every (λ i. i < n) (i ∷ cond bad [] (by_order o lower [] higher))
   middle_first i true o lower higher l f g = (l, tt)
-  middle_first i false Lower lower higher l f g = (l, f)
+  middle_first i false Less lower higher l f g = (l, f)
   middle_first i false Equal lower higher l f g = (l, tt)
-  middle_first i false Higher lower higher l f g = (l, g)
+  middle_first i false Greater lower higher l f g = (l, g)
 
-  middle_found : (i : ℕ) (bad : Bool) (o : Order) (lower higher : Halved) → i < n → Within n lower → Within n higher
-      → Within n (cond bad (Breach i) (by_order o lower (Found i) higher))
+  middle_found : (i : ℕ) (bad : Bool) (o : Ordering) (lower higher : Halved) → i < n → Within n lower → Within n higher
+      → Within n (cond bad (Err i) (by_order o lower (Ok (here i)) higher))
   middle_found i true o lower higher l f g = tt
-  middle_found i false Lower lower higher l f g = f
+  middle_found i false Less lower higher l f g = f
   middle_found i false Equal lower higher l f g = l
-  middle_found i false Higher lower higher l f g = g
+  middle_found i false Greater lower higher l f g = g
 
 module _ (leaf : Bool) (b : List ℕ) (key : Key) (n : ℕ) where
   middles_within : (turns low high : ℕ) → high ≤ n → Every (λ i. i < n) (middles leaf b key turns low high)
@@ -85,7 +83,7 @@ module _ (leaf : Bool) (b : List ℕ) (key : Key) (n : ℕ) where
 
 -- a branch has an element
 filled : (top leaf : Bool) (n : ℕ) → (n ≡ 0 → (top && leaf) ≡ true) → leaf ≡ false → 0 < n
-filled top leaf zero h e = absurd (let f = (and_both top leaf (h refl)).1 in let z : ◌≡◌ {A = ℕ} 0 1 = cc in omega arith)
+filled top leaf zero h e = absurd (let f = (and_both top leaf (h refl)).1 in cc)
 filled top leaf (suc n) h e = omega arith
 
 -- a run ends within so many bytes
@@ -117,9 +115,8 @@ module _ (size start : ℕ) (b : List ℕ) (ends : start + length b ≤ size) wh
 
   child_inside : (leaf : Bool) → table_end leaf b ≤ length b → (h : Halved) → (leaf ≡ false → Within (count_of b) h)
       → Every (Ends size) (child_runs leaf start h)
-  child_inside false t (Found i) w = (omega (arith, w refl), tt)
-  child_inside false t (Place i) w = (omega (arith, w refl), tt)
-  child_inside false t (Breach i) w = tt
+  child_inside false t (Ok place) w = (omega (arith, w refl), tt)
+  child_inside false t (Err i) w = tt
   child_inside true t h w = tt
 
   block_inside_lem : (top : Bool) (key : Key) → Every (Ends size) (block_runs start top b key)
@@ -160,12 +157,12 @@ module _ (image : List ℕ) (P N : ℕ) (key : Key) (s : SoundSizes image P N) w
   descent_inside zero top q = tt
   descent_inside (suc d) top q = go (descent_inside d false) (inside N q) refl
     where
-      onwards : ((child : ℕ) → Every (Ends (length image)) (descent_runs image P N key d false child)) → (says : Step)
+      onwards : ((child : ℕ) → Every (Ends (length image)) (descent_runs image P N key d false child)) → (says : Stepped)
           → Every (Ends (length image)) (onward_runs (descent_runs image P N key d false) says)
-      onwards ih (step.Down child) = ih child
-      onwards ih (step.Found v) = tt
-      onwards ih step.Absent = tt
-      onwards ih (step.Breach number element common) = tt
+      onwards ih (Ok (Down child)) = ih child
+      onwards ih (Ok (Found v)) = tt
+      onwards ih (Ok Absent) = tt
+      onwards ih (Err b) = tt
 
       go : ((child : ℕ) → Every (Ends (length image)) (descent_runs image P N key d false child)) → (t : Bool) → inside N q ≡ t
           → Every (Ends (length image)) (descent_runs image P N key (suc d) top q)

@@ -10,27 +10,26 @@ use lib.Dec.{ltb}
 use lib.ListN.{length, take, drop, length-take, length-drop}
 use lib.Seq.{get_or-take, get_or-drop}
 use Rattle.field.specs.Field.{field}
-use Rattle.field.specs.declared.order.Order.{Order}
-use Rattle.field.specs.declared.order.Order.TheVariants.{Lower, Equal, Higher}
+use Rattle.std.specs.declared.cmp.Ordering.{Ordering}
+use Rattle.std.specs.declared.cmp.Ordering.TheVariants.{Less, Equal, Greater}
 use Rattle.field.specs.Order.{order_of}
 use Rattle.page.specs.Layout.{type_of, count_of, overflow_of, is_leaf, element_at, page_of, kind_of, pos_of, key_size, value_size, key_at, key_of}
-use Rattle.page.specs.PageRules.{header_bad, table_bad, element_bad, block_of}
+use Rattle.page.specs.PageRules.{header_bad, table_bad, element_bad, block_of, breach}
 use Rattle.page.proofs.LayoutLaws.{SameHeader}
 use Rattle.page.proofs.BlockLaws.{header_same}
 use Rattle.walk.specs.Tree.{Key, inside, Every}
 use Rattle.view.specs.Geometry.{geometry_bad}
 use Rattle.view.specs.Fault.{fault_at}
-use Rattle.lookup.specs.declared.Looked.TheVariants.{Refused}
-use Rattle.lookup.specs.declared.descent.Step.{Step}
-use Rattle.lookup.specs.declared.descent.Step.TheVariants as step
-use Rattle.lookup.specs.Descent.{descend, onward}
-use Rattle.quick.specs.declared.halving.Halved.{Halved}
-use Rattle.quick.specs.declared.halving.Halved.TheVariants.{Found, Place, Breach}
-use Rattle.quick.specs.Halving.{middle, by_order, halve, halves_of}
+use Rattle.lookup.specs.declared.descent.Step.TheVariants.{Down, Found, Absent}
+use Rattle.lookup.specs.Descent.{Stepped, descend, onward}
+use Rattle.quick.specs.Halving.{Halved, here, middle, by_order, halve, halves_of}
+use Rattle.view.specs.View.{value_item}
 use Rattle.quick.specs.Quick.{says_of, block_says, page_says, quick_of}
 use Rattle.reads.specs.Reads.{middles, looks_at, Run, run, SameIn, header_runs, number_runs, key_runs, element_runs, child_runs, block_runs, page_runs, onward_runs, descent_runs, reads_of, SameRead}
 use Rattle.reads.proofs.RunLaws.{every_split}
 use Rattle.reads.proofs.SameLaws.{same_within, same_drop, same_take, same_field, same_order}
+use Rattle.std.specs.Prelude.{Ok, Err}
+use Rattle.field.specs.declared.refusal.Refusal.TheVariants.{Geometry, Header, Table}
 
 -- ---- an element
 
@@ -43,9 +42,8 @@ record SameNumbers (leaf : Bool) (b b' : List ℕ) (i : ℕ) : Type 0 where
 
 -- what halving found has the same numbers
 abbrev SameFound : Bool → List ℕ → List ℕ → Halved → Type 0
-SameFound leaf b b' (Found i) = SameNumbers leaf b b' i
-SameFound leaf b b' (Place i) = Unit
-SameFound leaf b b' (Breach i) = Unit
+SameFound leaf b b' (Ok place) = place.found ≡ true → SameNumbers leaf b b' place.at
+SameFound leaf b b' (Err i) = Unit
 
 -- two blocks have the same bytes wherever two images have, counted from `start` on
 abbrev Parts : List ℕ → List ℕ → ℕ → List ℕ → List ℕ → Type 0
@@ -63,7 +61,7 @@ module _ (image image' : List ℕ) (start : ℕ) (b b' : List ℕ) (parts : Part
         pos = number (element_at false i + 16) 8 r (omega arith) (omega arith) h.0;
         key = number (element_at false i + 8) 0 r (omega arith) (omega arith) h.0;
         value = refl;
-        kind = λ e. absurd (let z : ◌≡◌ {A = ℕ} 0 1 = cc in omega arith);
+        kind = λ e. absurd cc;
       }
   same_numbers true i h =
       let r : Run = run (start + element_at true i + 8) 24 in
@@ -91,12 +89,14 @@ module _ (image image' : List ℕ) (start : ℕ) (b b' : List ℕ) (parts : Part
   -- what halving comes to is the same step
   same_says : (leaf : Bool) (h : Halved) → SameFound leaf b b' h → Every (SameIn image image') (child_runs leaf start h)
       → says_of leaf start b' h ≡ says_of leaf start b h
-  same_says false (Found i) f c = ap step.Down (same_child i c.0)
-  same_says false (Place i) f c = ap step.Down (same_child i c.0)
-  same_says false (Breach i) f c = refl
-  same_says true (Found i) f c = rw (f.kind refl, f.pos, f.key, f.value)
-  same_says true (Place i) f c = refl
-  same_says true (Breach i) f c = refl
+  same_says leaf (Err i) f c = refl
+  same_says false (Ok place) f c = ap (λ (page : ℕ). Ok (Down page)) (same_child place.at c.0)
+  same_says true (Ok place) f c = go place.found f
+    where
+      go : (t : Bool) → (t ≡ true → SameNumbers true b b' place.at)
+          → ◌≡◌ {A = Stepped} (Ok (cond t (Found (value_item start b' place.at).value) Absent)) (Ok (cond t (Found (value_item start b place.at).value) Absent))
+      go true f = let n = f refl in rw (n.kind refl, n.pos, n.key, n.value)
+      go false f = refl
 
 -- rule 6 says the same of an element
 same_bad : (leaf : Bool) (b b' : List ℕ) (i : ℕ) → length b' ≡ length b → count_of b' ≡ count_of b → SameNumbers leaf b b' i
@@ -145,34 +145,34 @@ module _ (image image' : List ℕ) (start : ℕ) (leaf : Bool) (b b' : List ℕ)
         (n, (λ e. let k : Every Q (r ∷ []) = rw e at own.1 in same_key leaf b b' key i lengths n (parts (key_at leaf b i) r refl k.0)), all.1)
 
     -- a turn, after which both halves come to the same: by the order of the key at the middle, and after rule 6
-    turn_order : (i : ℕ) (o : Order) (lower higher : List ℕ) (x x' y y' : Halved) → SameNumbers leaf b b' i
+    turn_order : (i : ℕ) (o : Ordering) (lower higher : List ℕ) (x x' y y' : Halved) → SameNumbers leaf b b' i
         → (SameLooked lower → Alike x x')
         → (SameLooked higher → Alike y y')
         → SameLooked (by_order o lower [] higher)
-        → Alike (by_order o x (Found i) y) (by_order o x' (Found i) y')
-    turn_order i Lower lower higher x x' y y' n f g h = f h
-    turn_order i Equal lower higher x x' y y' n f g h = (refl, n)
-    turn_order i Higher lower higher x x' y y' n f g h = g h
+        → Alike (by_order o x (Ok (here i)) y) (by_order o x' (Ok (here i)) y')
+    turn_order i Less lower higher x x' y y' n f g h = f h
+    turn_order i Equal lower higher x x' y y' n f g h = (refl, λ e. n)
+    turn_order i Greater lower higher x x' y y' n f g h = g h
 
-    turn : (i : ℕ) (bad : Bool) (o o' : Order) (lower higher : List ℕ) (x x' y y' : Halved) → SameNumbers leaf b b' i
+    turn : (i : ℕ) (bad : Bool) (o o' : Ordering) (lower higher : List ℕ) (x x' y y' : Halved) → SameNumbers leaf b b' i
         → (bad ≡ false → o' ≡ o)
         → (SameLooked lower → Alike x x')
         → (SameLooked higher → Alike y y')
         → SameLooked (cond bad [] (by_order o lower [] higher))
-        → Alike (cond bad (Breach i) (by_order o x (Found i) y)) (cond bad (Breach i) (by_order o' x' (Found i) y'))
+        → Alike (cond bad (Err i) (by_order o x (Ok (here i)) y)) (cond bad (Err i) (by_order o' x' (Ok (here i)) y'))
     turn i true o o' lower higher x x' y y' n e f g h = (refl, tt)
     turn i false o o' lower higher x x' y y' n e f g h = rw (e refl) (turn_order i o lower higher x x' y y' n f g h)
 
     same_halve : (turns low high : ℕ) → SameLooked (middles leaf b key turns low high) → Alike (halve leaf b key turns low high) (halve leaf b' key turns low high)
     unfolding halve middles element_runs
-    same_halve zero low high h = (refl, tt)
+    same_halve zero low high h = (refl, λ f. absurd cc)
     same_halve (suc turns) low high h = go (same_halve turns) (ltb low high) refl
       where
         go : ((low high : ℕ) → SameLooked (middles leaf b key turns low high) → Alike (halve leaf b key turns low high) (halve leaf b' key turns low high))
             → (t : Bool)
             → ltb low high ≡ t
             → Alike (halve leaf b key (suc turns) low high) (halve leaf b' key (suc turns) low high)
-        go ih false e = rw e (refl, tt)
+        go ih false e = rw e (refl, λ f. absurd cc)
         go ih true e =
             let m = middle low high in
             let o = order_of (key_of leaf b m) key in
@@ -202,8 +202,8 @@ module _ (image image' : List ℕ) (start : ℕ) (top : Bool) (b b' : List ℕ) 
       where
         go : (t : Bool)
             → table_bad (is_leaf b) (top && is_leaf b) b ≡ t
-            → cond t (step.Breach 4 0 0) (says_of (is_leaf b) start b' (halves_of (is_leaf b) b' key))
-            ≡ cond t (step.Breach 4 0 0) (says_of (is_leaf b) start b (halves_of (is_leaf b) b key))
+            → cond t (Err (breach Table 0 0)) (says_of (is_leaf b) start b' (halves_of (is_leaf b) b' key))
+            ≡ cond t (Err (breach Table 0 0)) (says_of (is_leaf b) start b (halves_of (is_leaf b) b key))
         go true e = refl
         go false e =
             let both = every_split (SameIn image image') (element_runs (is_leaf b) start b key (looks_at (is_leaf b) b key)) (child_runs (is_leaf b) start (halves_of (is_leaf b) b key)) (rw e at h) in
@@ -242,7 +242,7 @@ module _ (image image' : List ℕ) (P N : ℕ) (key : Key) (same_length : length
 
       go : (t : Bool)
           → header_bad N q s ≡ t
-          → cond t (step.Breach 3 0 0) (block_says (q * P) top (block_of image' P q) key) ≡ cond t (step.Breach 3 0 0) (block_says (q * P) top (block_of image P q) key)
+          → cond t (Err (breach Header 0 0)) (block_says (q * P) top (block_of image' P q) key) ≡ cond t (Err (breach Header 0 0)) (block_says (q * P) top (block_of image P q) key)
       go true e = refl
       go false e =
           let parts = block_parts q head.overflow in
@@ -260,12 +260,12 @@ module _ (image image' : List ℕ) (P N : ℕ) (key : Key) (same_length : length
   same_descent zero top q h = refl
   same_descent (suc d) top q h = go (same_descent d false) (inside N q) refl
     where
-      onwards : ((child : ℕ) → Same d false child) → (s : Step) → Every (SameIn image image') (onward_runs (descent_runs image P N key d false) s)
+      onwards : ((child : ℕ) → Same d false child) → (s : Stepped) → Every (SameIn image image') (onward_runs (descent_runs image P N key d false) s)
           → onward (descend N (page_says image' P N key) d false) q s ≡ onward (descend N (page_says image P N key) d false) q s
-      onwards ih (step.Down child) r = ih child r
-      onwards ih (step.Found v) r = refl
-      onwards ih step.Absent r = refl
-      onwards ih (step.Breach number element common) r = refl
+      onwards ih (Ok (Down child)) r = ih child r
+      onwards ih (Ok (Found v)) r = refl
+      onwards ih (Ok Absent) r = refl
+      onwards ih (Err b) r = refl
 
       go : ((child : ℕ) → Same d false child) → (t : Bool) → inside N q ≡ t
           → descend N (page_says image' P N key) (suc d) top q ≡ descend N (page_says image P N key) (suc d) top q
@@ -286,6 +286,6 @@ same_answer image image' P N root key s = rw (same_geometry image image' P N s.s
   where
     go : (t : Bool)
         → geometry_bad image P N ≡ t
-        → cond t (Refused (fault_at 1 0 0 0)) (descend N (page_says image' P N key) 16 true root) ≡ cond t (Refused (fault_at 1 0 0 0)) (descend N (page_says image P N key) 16 true root)
+        → cond t (Err (fault_at Geometry 0 0 0)) (descend N (page_says image' P N key) 16 true root) ≡ cond t (Err (fault_at Geometry 0 0 0)) (descend N (page_says image P N key) 16 true root)
     go true e = refl
     go false e = same_descent image image' P N key s.same_length 16 true root (rw e at s.same_bytes)

@@ -1,17 +1,15 @@
 -- What the quick lookup looks at: in a page the elements at the middles, and in the image runs of bytes. Of a page these are its header but for the seven bytes
 -- after its type; of an element looked at its numbers, and of its key no more bytes than the key looked for has; and of a branch the number of one child.
 -- Assumes nothing.
-use Rattle.std.specs.Prelude.{◌≡◌, Bool, true, false, cond, ◌&&◌, List, [], ◌∷◌, ◌++◌, ℕ, zero, suc, ◌+◌, ◌*◌, ◌^◌, ◌<◌, min, ltb, length, get_or, drop}
+use Rattle.std.specs.Prelude.{◌≡◌, Bool, true, false, cond, ◌&&◌, List, [], ◌∷◌, ◌++◌, ℕ, zero, suc, ◌+◌, ◌*◌, ◌^◌, ◌<◌, min, ltb, length, get_or, drop, Ok, Err}
 use Rattle.field.specs.Order.{order_of}
 use Rattle.page.specs.Layout.{count_of, is_leaf, element_at, key_size, key_at, key_of}
 use Rattle.page.specs.PageRules.{header_bad, table_bad, element_bad, block_of}
 use Rattle.walk.specs.Tree.{Key, inside, Every}
 use Rattle.view.specs.Geometry.{geometry_bad}
-use Rattle.lookup.specs.declared.descent.Step.{Step}
-use Rattle.lookup.specs.declared.descent.Step.TheVariants.{Down, Found, Absent, Breach}
-use Rattle.quick.specs.declared.halving.Halved.{Halved}
-use Rattle.quick.specs.declared.halving.Halved.TheVariants as halved
-use Rattle.quick.specs.Halving.{middle, by_order, halves_of}
+use Rattle.lookup.specs.declared.descent.Step.TheVariants.{Down, Found, Absent}
+use Rattle.lookup.specs.Descent.{Stepped}
+use Rattle.quick.specs.Halving.{Halved, middle, by_order, halves_of}
 use Rattle.quick.specs.Quick.{page_says}
 
 -- ---- the elements that halving looks at, in turn, turn by turn as `halve`
@@ -70,9 +68,8 @@ element_runs leaf start b key (i ∷ is) = number_runs leaf start i ++ key_runs 
 -- the number of a branch's child
 abbrev pub child_runs : Bool → ℕ → Halved → List Run
 child_runs true start h = []
-child_runs false start (halved.Breach i) = []
-child_runs false start (halved.Found i) = run (start + element_at false i) 8 ∷ []
-child_runs false start (halved.Place i) = run (start + element_at false i) 8 ∷ []
+child_runs false start (Ok place) = run (start + element_at false place.at) 8 ∷ []
+child_runs false start (Err i) = []
 
 unfoldable pub block_runs : ℕ → Bool → List ℕ → Key → List Run
 block_runs start top b key =
@@ -85,11 +82,11 @@ page_runs image P N key q top =
     header_runs (q * P) ++ cond (header_bad N q (drop (q * P) image)) [] (block_runs (q * P) top (block_of image P q) key)
 
 -- ---- of the descent, at most d levels from page q on
-abbrev pub onward_runs : (ℕ → List Run) → Step → List Run
-onward_runs go (Down child) = go child
-onward_runs go (Found v) = []
-onward_runs go Absent = []
-onward_runs go (Breach number element common) = []
+abbrev pub onward_runs : (ℕ → List Run) → Stepped → List Run
+onward_runs go (Ok (Down child)) = go child
+onward_runs go (Ok (Found v)) = []
+onward_runs go (Ok Absent) = []
+onward_runs go (Err b) = []
 
 unfoldable pub descent_runs : List ℕ → ℕ → ℕ → Key → ℕ → Bool → ℕ → List Run
 descent_runs image P N key zero top q = []

@@ -7,28 +7,17 @@ use field::number::{put_u64, u64_at};
 pub fn load(bytes: &[u8], list: &mut [u64]) -> usize
     ensures { result ≤ length list.old }
 {
-    let mut i = 0;
-    while i < list.len() {
-        if bytes.len() / 8 <= i {
-            return i;
-        }
+    let n = list.len().min(bytes.len() / 8);
+    for i in 0..n {
         list[i] = u64_at(bytes, 8 * i);
-        i += 1;
     }
-    i
+    n
 }
 
 // Stores so many numbers of the list as bytes, as far as they fit.
 pub fn store(list: &[u64], n: usize, bytes: &mut [u8]) {
-    let mut i = 0;
-    while i < n {
-        if list.len() <= i {
-            return;
-        }
-        if bytes.len() / 8 <= i {
-            return;
-        }
+    let fitting = n.min(list.len()).min(bytes.len() / 8);
+    for i in 0..fitting {
         put_u64(bytes, 8 * i, list[i]);
-        i += 1;
     }
 }

@@ -23,20 +23,15 @@ const FILLER_WORD: u64 = 11936128518282651045;
 
 // The byte expected at a place: what is recorded, or what was there.
 fn expected(recorded: &[u8], i: usize) -> u8 {
-    if i < recorded.len() {
-        return recorded[i];
-    }
-    FILLER
+    recorded.get(i).copied().unwrap_or(FILLER)
 }
 
 // Whether lent bytes are those recorded, and the rest of them as they were.
 fn is_same(lent: &[u8], recorded: &[u8]) -> bool {
-    let mut i = 0;
-    while i < lent.len() {
-        if lent[i] != expected(recorded, i) {
+    for (i, &byte) in lent.iter().enumerate() {
+        if byte != expected(recorded, i) {
             return false;
         }
-        i += 1;
     }
     recorded.len() <= lent.len()
 }
@@ -106,11 +101,12 @@ fn replay_all(
     counts: &mut [u64],
 ) -> io::Result<()> {
     let mut at = 0;
-    let mut which = 0;
+    let mut which = 0u64;
+    // No count: each turn goes on where a record ends.
     while at < file.len() {
         let end = record_end(file, at);
         let n = unpack(&file[at..end], record);
-        which = std::num::wrapping_add_u64(which, 1);
+        which = which.wrapping_add(1);
         replay(rt, &record[..n], which, image, table, counts)?;
         at = end;
     }

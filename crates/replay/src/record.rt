@@ -2,7 +2,7 @@
 ghost use Rattle.std.specs.Prelude.{◌<◌, ◌≤◌, length};
 
 use super::tally::CALLS;
-use field::number::{byte_at, u64_at};
+use field::number::u64_at;
 use field::run::clear;
 
 // The numbers of the head: the call, the number it is to answer, nine arguments, the room lent, the ends of the parts.
@@ -69,11 +69,7 @@ pub fn count(record: &[u8], i: usize) -> usize {
 pub fn room(record: &[u8], most: usize) -> usize
     ensures { result ≤ most }
 {
-    let lent = number(record, ROOM) as usize;
-    if lent < most {
-        return lent;
-    }
-    most
+    most.min(number(record, ROOM) as usize)
 }
 
 // Where a part begins.
@@ -121,12 +117,10 @@ pub fn is_readable(record: &[u8]) -> bool {
     if CALLS <= call(record) {
         return false;
     }
-    let mut k = 0;
-    while k < PARTS {
+    for k in 0..PARTS {
         if !has_part(record, k) {
             return false;
         }
-        k += 1;
     }
     end(record, OUTPUT) == record.len()
 }
@@ -159,6 +153,7 @@ pub fn unpack(packed: &[u8], out: &mut [u8]) -> usize
     }
     let mut n = 0;
     let mut i = 8;
+    // No count: a turn takes one byte, or a zero and its count.
     while i < packed.len() {
         if out.len() <= n {
             return 0;
@@ -182,8 +177,5 @@ pub fn unpack(packed: &[u8], out: &mut [u8]) -> usize
 
 // The count at a place, 0 past the end.
 fn zeros_at(packed: &[u8], at: usize) -> usize {
-    if packed.len() <= at {
-        return 0;
-    }
-    byte_at(packed, at) as usize
+    packed.get(at).map_or(0, |&count| usize::from(count))
 }

@@ -52,6 +52,6 @@ pub fn summary(rt: &impl Print, counts: &[u64]) -> io::Result<()> {
     row(rt, counts, 0, "not readable")?;
     let same = counted(counts, CALLS, false);
     let differing = counted(counts, CALLS, true);
-    let answers = std::num::wrapping_add_u64(same, differing);
+    let answers = same.wrapping_add(differing);
     println!(rt; "{answers} answers, {differing} differ")
 }

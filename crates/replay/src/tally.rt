@@ -28,7 +28,7 @@ fn one_more(counts: &mut [u64], i: usize) {
     if counts.len() <= i {
         return;
     }
-    counts[i] = std::num::wrapping_add_u64(counts[i], 1);
+    counts[i] = counts[i].wrapping_add(1);
 }
 
 // Counts an answer of a call.

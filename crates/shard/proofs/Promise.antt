@@ -7,16 +7,14 @@ use mathlib.Core.List.{List}
 use Prim.Native.Nat.{ℕ, ◌*◌, ◌≤◌}
 use borrow.Author.Tests.{le-ltb}
 use lib.ListN.{length}
+use Rattle.std.specs.Prelude.{Some, None, Ok, Err}
 use Rattle.answer.specs.Answer.{number_with, answer_with, told_number, told_answer}
 use Rattle.walk.specs.Tree.{Key}
 use Rattle.view.specs.declared.Fault.{Fault}
-use Rattle.lookup.specs.declared.Looked.{Looked}
-use Rattle.lookup.specs.declared.Looked.TheVariants as looked
-use Rattle.judge.specs.declared.Judged.{Judged}
-use Rattle.judge.specs.declared.Judged.TheVariants as judged
+use Rattle.lookup.specs.Descent.{Looked}
 use Rattle.lookup.specs.Lookup.{lookup_of}
 use Rattle.quick.specs.Quick.{quick_of}
-use Rattle.judge.specs.Judge.{judge_of, Passes, judged_number}
+use Rattle.judge.specs.Judge.{Judged, judge_of, Passes, judged_number}
 use Rattle.tree.specs.Holds.{value_held}
 use Rattle.tree.specs.Demand3.{Demand3In}
 use Rattle.tree.proofs.Demand3.{demand3}
@@ -25,13 +23,14 @@ use Rattle.tree.proofs.Numbers.{zero_passes}
 use Rattle.shard.specs.Answer.{looked_fields, judged_fields}
 use Rattle.shard.specs.Promise.{Promise}
 use Rattle.shard.proofs.ZeroDone.{zero_told}
+use Rattle.field.specs.Refusal.{number_of}
 
 -- an answer that is no refusal has the number 0
-told_zero : (a : Looked) (room : List ℕ) → 56 ≤ length room → ((x : Fault) → a ≡ looked.Refused x → ⊥) → told_number (looked_fields a) room ≡ 0
+told_zero : (a : Looked) (room : List ℕ) → 56 ≤ length room → ((x : Fault) → a ≡ Err x → ⊥) → told_number (looked_fields a) room ≡ 0
 unfolding number_with
-told_zero (looked.Found v) room l n = rw (le-ltb (length room) (8 * 7) l)
-told_zero looked.Absent room l n = rw (le-ltb (length room) (8 * 7) l)
-told_zero (looked.Refused x) room l n = absurd (n x refl)
+told_zero (Ok (Some v)) room l n = rw (le-ltb (length room) (8 * 7) l)
+told_zero (Ok None) room l n = rw (le-ltb (length room) (8 * 7) l)
+told_zero (Err x) room l n = absurd (n x refl)
 
 -- a lookup that meets demand 3 keeps the promise
 pub promise : (look : List ℕ → Key → Looked) (image : List ℕ) (P N root : ℕ) → Demand3In look image P N root → Promise look image P N root
@@ -50,8 +49,8 @@ promise look image P N root d key room roomy =
     }
 
 judge_told : (j : Judged) (answer : List ℕ) → told_number (judged_fields j) answer ≡ 0 → judged_number j ≡ 0
-judge_told (judged.Sound entries pages) answer e = refl
-judge_told (judged.Refused f) answer e = zero_told 5 f.number answer e
+judge_told (Ok c) answer e = refl
+judge_told (Err f) answer e = zero_told 5 (number_of f.refusal) answer e
 
 -- ---- where the judge's C function returns 0
 module _ (image : List ℕ) (P N root freelist : ℕ) (answer : List ℕ) (zero : told_number (judged_fields (judge_of image P N root freelist)) answer ≡ 0) where

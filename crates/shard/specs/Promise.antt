@@ -5,7 +5,7 @@ use Rattle.answer.specs.Answer.{fields, told_number, told_answer}
 use Rattle.page.specs.Layout.{value_of}
 use Rattle.page.specs.PageRules.{block_of}
 use Rattle.walk.specs.Tree.{Key}
-use Rattle.lookup.specs.declared.Looked.{Looked}
+use Rattle.lookup.specs.Descent.{Looked}
 use Rattle.lookup.specs.Lookup.{value_in}
 use Rattle.tree.specs.Holds.{Holds, value_held}
 use Rattle.tree.specs.Outside.{SameWithin}

@@ -11,29 +11,30 @@ ghost use Rattle.answer.specs.Answer.{told_number, told_answer};
 ghost use Rattle.shard.specs.Answer.{looked_fields, judged_fields};
 
 use answer::give;
-use field::number::wide;
-use judge::{Judged, judge};
-use lookup::{Looked, lookup};
+use judge::judge;
+use lookup::lookup;
 use newest::{Newest, newest_meta};
 use quick::quick;
+use view::{Fault, Value};
 
 // Gives a lookup's answer: its number, and its fields in `answer`: found, kind, place, length, page, element, common.
-fn tell(looked: Looked, answer: &mut [u8]) -> u64
+fn tell(looked: Result<Option<Value>, Fault>, answer: &mut [u8]) -> u64
     ensures { (result ≡ told_number (looked_fields looked) answer.old)
         × (answer.new ≡ told_answer (looked_fields looked) answer.old) }
 {
     match looked {
-        Looked::Found(v) => {
-            let values = [1, wide(v.kind), v.place as u64, v.length as u64, 0, 0, 0];
+        Ok(Some(v)) => {
+            let kind = u64::from(v.kind);
+            let values = [1, kind, v.place as u64, v.length as u64, 0, 0, 0];
             give(answer, 0, &values)
         }
-        Looked::Absent => {
+        Ok(None) => {
             let values = [0; 7];
             give(answer, 0, &values)
         }
-        Looked::Refused(f) => {
+        Err(f) => {
             let values = [0, 0, 0, 0, f.page as u64, f.element as u64, f.common as u64];
-            give(answer, f.number, &values)
+            give(answer, u64::from(f.refusal), &values)
         }
     }
 }
@@ -84,13 +85,13 @@ pub extern "C" fn tyvarmos_judge(
         × (answer.new ≡ told_answer (judged_fields (judge_of image.now p n root freelist)) answer.old) }
 {
     match judge(image, p, n, root, freelist) {
-        Judged::Sound(entries, pages) => {
-            let values = [entries as u64, pages as u64, 0, 0, 0];
+        Ok(counts) => {
+            let values = [counts.entries as u64, counts.pages as u64, 0, 0, 0];
             give(answer, 0, &values)
         }
-        Judged::Refused(f) => {
+        Err(f) => {
             let values = [0, 0, f.page as u64, f.element as u64, f.common as u64];
-            give(answer, f.number, &values)
+            give(answer, u64::from(f.refusal), &values)
         }
     }
 }
@@ -102,21 +103,18 @@ pub extern "C" fn tyvarmos_meta(image: &[u8], p: usize, answer: &mut [u8]) -> u6
         × (answer.new ≡ told_answer (newest_fields (newest_of image.now p)) answer.old) }
 {
     match newest_meta(image, p) {
-        Newest::Taken(page, m) => {
+        Ok(Newest { page, meta }) => {
             let values = [
                 page as u64,
-                m.pagesize,
-                m.root_page,
-                m.next_int,
-                m.num_pages,
-                m.freelist_page,
-                m.tx_id,
+                meta.pagesize,
+                meta.root_page,
+                meta.next_int,
+                meta.num_pages,
+                meta.freelist_page,
+                meta.tx_id,
             ];
             give(answer, 0, &values)
         }
-        Newest::Refused(number) => {
-            let values = [0; 7];
-            give(answer, number, &values)
-        }
+        Err(refusal) => give(answer, u64::from(refusal), &[0; 7]),
     }
 }

@@ -4,7 +4,7 @@ use mathlib.Core.Path.{◌≡◌, ap, ◌∙◌}
 use mathlib.Core.Bool.{Bool, true}
 use mathlib.Core.List.{List, [], ◌∷◌}
 use Prim.Native.Nat.{ℕ, ◌+◌, ◌≤◌, ◌<◌}
-use native.Mathlib.Nat.{sub-zero, min-eq_left, min-eq_right, min-le_right}
+use native.Mathlib.Nat.{sub-zero, min-le_right}
 use native.Mathlib.Omega.{arith}
 use lib.ListN.{length, length-drop}
 use lib.Seq.{length-take-le}
@@ -69,16 +69,6 @@ pub size_entries : (leaf : Bool) (es : List Entry) → 40 + entries_size leaf es
 size_entries leaf es = let m = size_least leaf es in omega arith
 
 -- ---- the count stops one past the limit
-pub counted_whole : (size : ℕ) → size ≤ node_limit → capped_size size ≡ size
-counted_whole size h = min-eq_left (omega arith)
-
-pub counted_past : (size : ℕ) → node_limit < size → capped_size size ≡ node_limit + 1
-counted_past size h = min-eq_right (omega arith)
-
--- so that it says whether the limit is passed
-pub counted_limit : (size : ℕ) → capped_size size ≤ node_limit → capped_size size ≡ size
-counted_limit size h = omega arith
-
 pub counted_most : (size : ℕ) → capped_size size ≤ node_limit + 1
 counted_most size = min-le_right size (node_limit + 1)
 

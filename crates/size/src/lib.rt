@@ -30,13 +30,9 @@ pub fn entry_size(b: &[u8], leaf: bool, i: usize) -> usize
 
 // A size with some bytes more, counted no further than one past the limit.
 pub fn add_size(sum: usize, more: usize) -> usize
-    requires { sum ≤ node_limit + 1 }
     ensures { result ≡ capped_size (sum + more) }
 {
-    if NODE_LIMIT + 1 - sum <= more {
-        return NODE_LIMIT + 1;
-    }
-    sum + more
+    sum.saturating_add(more).min(NODE_LIMIT + 1)
 }
 
 // A size with the entries from `from` to `to` more, counted no further than one past the limit.
@@ -45,10 +41,8 @@ pub fn add_entries(b: &[u8], leaf: bool, from: usize, to: usize, sum: usize) -> 
     ensures { result ≡ capped_size (sum + entries_size leaf (range leaf b.now from to)) }
 {
     let mut total = sum;
-    let mut i = from;
-    while i < to {
+    for i in from..to {
         total = add_size(total, entry_size(b, leaf, i));
-        i += 1;
     }
     total
 }

@@ -9,6 +9,7 @@ use native.Mathlib.Omega.{arith}
 use lib.Dec.{leb}
 use lib.ListN.{length, get_or, take, drop, length-map, length-append}
 use lib.Seq.{take_at, drop-append-add}
+use Rattle.std.specs.Prelude.{unwrap_or}
 use Rattle.page.specs.Layout.{Entry, count_of, entries_of}
 use Rattle.page.proofs.TestLaws.{leb_same, and_both}
 use Rattle.page.proofs.EntryLaws.{length-entries}
@@ -17,10 +18,10 @@ use Rattle.pack.specs.Plan.{range}
 use Rattle.pack.proofs.RangeLaws.{range_part}
 use Rattle.pack.proofs.PackLaws.{length_pack}
 use Rattle.cuts.specs.Split.{threshold, cuts_of, pieces_from, pieces_of}
-use Rattle.cuts.specs.Run.{cuts_after, first_cut, end_or, piece_end, pieces_after, run_end}
+use Rattle.cuts.specs.Run.{cuts_after, first_cut, piece_end, pieces_after, run_end}
 use Rattle.field.specs.Sizes.{block_inside}
 use Rattle.split.specs.Write.{span_of, spans_of, apart, clear_of, placed, bytes_in, pack_all, capped_spans}
-use Rattle.cuts.proofs.RunLaws.{none_after, next_after, end_within}
+use Rattle.cuts.proofs.RunLaws.{next_after, end_within}
 use Rattle.cuts.proofs.PartedLaws.{cuts_code}
 use Rattle.cuts.proofs.PieceLaws.{length-pieces}
 use Rattle.split.proofs.WriteLaws.{inside_end}
@@ -31,21 +32,19 @@ module _ (leaf : Bool) (t : ℕ) (b : List ℕ) (end : ℕ) (within : end ≤ co
       → pieces_from c cs (entries_of leaf b) ≡ pieces_after leaf t b end (suc (length cs)) c
   unfolding pieces_from pieces_after
   pieces_from_lem [] c h l =
-      let e : piece_end leaf t b end c ≡ count_of b = ap (λ (x : List ℕ). end_or (count_of b) (first_cut x)) h in
+      let e : piece_end leaf t b end c ≡ count_of b = ap (λ (x : List ℕ). unwrap_or (first_cut x) (count_of b)) h in
       rw (e, length-entries leaf b, range_part leaf b c (count_of b) (omega arith) (omega arith))
-  pieces_from_lem (zero ∷ ds) c h l =
-      absurd (let n = none_after leaf t b end c (ap first_cut h) in let z : ◌≡◌ {A = ℕ} 0 1 = cc in omega arith)
-  pieces_from_lem (suc d ∷ ds) c h l =
-      let e : piece_end leaf t b end c ≡ suc d = ap (λ (x : List ℕ). end_or (count_of b) (first_cut x)) h in
-      let n = next_after leaf t b end c (suc d) l (sym (ap first_cut h)) (omega arith) in
-      let same : cuts_after leaf t b end (suc d) ≡ ds = cc n.0 in
-      let rest = pieces_from_lem ds (suc d) same n.2 in
+  pieces_from_lem (d ∷ ds) c h l =
+      let e : piece_end leaf t b end c ≡ d = ap (λ (x : List ℕ). unwrap_or (first_cut x) (count_of b)) h in
+      let n = next_after leaf t b end c d (sym (ap first_cut h)) in
+      let same : cuts_after leaf t b end d ≡ ds = cc n.0 in
+      let rest = pieces_from_lem ds d same n.2 in
       let k = n.1 in
       let m = n.2 in
-      let head = range_part leaf b c (suc d) (omega arith) (omega arith) in
+      let head = range_part leaf b c d (omega arith) (omega arith) in
       rw e
-      (ap (λ (x : List Entry). x ∷ pieces_from (suc d) ds (entries_of leaf b)) (sym head)
-      ∙ ap (λ (x : List (List Entry)). range leaf b c (suc d) ∷ x) rest)
+      (ap (λ (x : List Entry). x ∷ pieces_from d ds (entries_of leaf b)) (sym head)
+      ∙ ap (λ (x : List (List Entry)). range leaf b c d ∷ x) rest)
 
 -- in the code's numbers: the threshold, the run's end and how many pieces there are
 pub pieces_code : (leaf : Bool) (P : ℕ) (b : List ℕ) (t end n : ℕ) → t ≡ threshold P → end ≡ run_end leaf P b

@@ -9,7 +9,7 @@ use Prim.Native.Nat.{ℕ, ◌+◌, ◌-◌, ◌*◌, ◌^◌, ◌≤◌, ◌<◌
 use native.Mathlib.Omega.{arith}
 use lib.ListN.{length, get_or, take, drop}
 use Rattle.field.proofs.FieldLaws.{Bytes}
-use Rattle.page.specs.declared.rules.Verdict.TheVariants.{Sound}
+use Rattle.std.specs.Prelude.{Ok}
 use Rattle.page.specs.Layout.{Entry, id_of, count_of, is_leaf, entries_of}
 use Rattle.page.specs.PageRules.{lent_check_of, SoundBlock}
 use Rattle.page.proofs.EntryLaws.{length-entries, length_from}
@@ -21,8 +21,7 @@ use Rattle.pack.proofs.RangeLaws.{range_part}
 use Rattle.pack.proofs.PackLaws.{covers}
 use Rattle.pack.proofs.Decode.{id_packed, decode}
 use Rattle.pack.proofs.PackedSound.{each_map, good_storable, good_from, rising_from, lent_packed, leaf_packed}
-use Rattle.split.specs.declared.Written.TheVariants.{Pieces}
-use Rattle.split.specs.Write.{span_of, spans_of, bytes_in, pack_all, block_pieces, split_write_of, out_left}
+use Rattle.split.specs.Write.{span_of, spans_of, bytes_in, pack_all, written, block_pieces, split_write_of, out_left}
 use Rattle.cuts.proofs.Halved.{size_range}
 use Rattle.cuts.proofs.PartedLaws.{lent_size}
 use Rattle.cuts.proofs.PieceLaws.{Part, piece_part}
@@ -58,9 +57,9 @@ module _ (leaf : Bool) (b : List ℕ) (sound : SoundBlock leaf leaf b) (piece : 
       sound.filled (omega arith)
 
 -- ---- the theorem: `old` is the output before the call, `out` what its contract says is left
-module _ (P N : ℕ) (b pages old : List ℕ) (bytes count : ℕ) (whole : Bytes b) (done : split_write_of P N b pages (length old) ≡ Pieces bytes count) where
+module _ (P N : ℕ) (b pages old : List ℕ) (bytes count : ℕ) (whole : Bytes b) (done : split_write_of P N b pages (length old) ≡ Ok (written bytes count)) where
   abbrev out : List ℕ
-  out = out_left (Pieces bytes count) (pack_all (is_leaf b) P pages (block_pieces P b)) old
+  out = out_left (Ok (written bytes count)) (pack_all (is_leaf b) P pages (block_pieces P b)) old
 
   abbrev page : ℕ → ℕ
   page i = get_or pages i 0
@@ -108,7 +107,7 @@ module _ (P N : ℕ) (b pages old : List ℕ) (bytes count : ℕ) (whole : Bytes
     pub piece_kind : is_leaf (stretch i) ≡ is_leaf b
     piece_kind = rw piece_packed (leaf_packed (is_leaf b) (page i) (piece i) P small.0 small.2)
 
-    pub piece_passes : lent_check_of P (stretch i) ≡ Sound
+    pub piece_passes : lent_check_of P (stretch i) ≡ Ok tt
     piece_passes =
         rw piece_packed
         (lent_packed (is_leaf b) (page i) (piece i) P small.0 small.2 (lent_size P b went.sound) (part_filled (is_leaf b) b source (piece i) part) good

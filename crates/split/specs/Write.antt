@@ -1,13 +1,15 @@
 -- 01, "Node edits, split": the pieces of a split written with a lent list of page numbers, one for each piece and its id.
 -- Assumes nothing.
-use Rattle.std.specs.Prelude.{Bool, true, cond, ◌&&◌, ◌||◌, List, [], ◌∷◌, ◌++◌, map, ℕ, ◌+◌, ◌*◌, min, leb, ltb, eqb, length, drop}
+use Rattle.std.specs.Prelude.{Bool, true, cond, ◌&&◌, ◌||◌, List, [], ◌∷◌, ◌++◌, map, ℕ, ◌+◌, ◌*◌, min, leb, ltb, eqb, length, drop, Ok, Err}
+use Rattle.std.specs.declared.result.Result.{Result}
+use Rattle.field.specs.declared.refusal.Refusal.TheVariants.{Geometry, OutputShort, Argument, NodeTooLarge}
 use Rattle.field.specs.Sizes.{count_allowed, pages_needed, block_inside}
 use Rattle.page.specs.Layout.{Entry, is_leaf, entries_of}
-use Rattle.page.specs.PageRules.{after_check, lent_check_of}
+use Rattle.page.specs.declared.breach.Breach.{Breach}
+use Rattle.page.specs.PageRules.{breach, and_then, lent_check_of}
 use Rattle.pack.specs.Pack.{node_size, pack}
 use Rattle.size.specs.Size.{node_limit}
 use Rattle.split.specs.declared.Written.{Written}
-use Rattle.split.specs.declared.Written.TheVariants.{Pieces, Refused}
 use Rattle.cuts.specs.Split.{pieces_of}
 
 -- how many pages a piece's block takes
@@ -47,13 +49,18 @@ pack_all leaf P [] pieces = []
 pack_all leaf P (q ∷ qs) [] = []
 pack_all leaf P (q ∷ qs) (e ∷ es) = pack leaf q e P ++ pack_all leaf P qs es
 
+-- so many bytes and pieces
+abbrev pub written : ℕ → ℕ → Written
+written bytes pieces = record { bytes = bytes; pieces = pieces }
+
 -- a wrong list 11, then a node that is too large 15, then an output that is too short 10, else how many bytes and pieces are written
-abbrev pub written_if : Bool → ℕ → ℕ → ℕ → ℕ → Written
+abbrev pub written_if : Bool → ℕ → ℕ → ℕ → ℕ → Result Written Breach
 written_if good size bytes room count =
-    cond good (cond (ltb node_limit size) (Refused 15 0 0) (cond (ltb room bytes) (Refused 10 0 0) (Pieces bytes count))) (Refused 11 0 0)
+    cond good (cond (ltb node_limit size) (Err (breach NodeTooLarge 0 0)) (cond (ltb room bytes) (Err (breach OutputShort 0 0)) (Ok (written bytes count))))
+    (Err (breach Argument 0 0))
 
 -- of a node of this size with these pieces
-abbrev pub written_of : Bool → ℕ → ℕ → ℕ → List (List Entry) → List ℕ → ℕ → Written
+abbrev pub written_of : Bool → ℕ → ℕ → ℕ → List (List Entry) → List ℕ → ℕ → Result Written Breach
 written_of leaf P N size pieces pages room =
     written_if (list_good N pages (spans_of leaf P pieces)) size (bytes_in P (spans_of leaf P pieces)) room (length pieces)
 
@@ -62,16 +69,16 @@ abbrev pub block_pieces : ℕ → List ℕ → List (List Entry)
 block_pieces P b = pieces_of (is_leaf b) P (entries_of (is_leaf b) b)
 
 -- `split_write` of a lent block: N is tried before all else
-unfoldable pub split_write_of : ℕ → ℕ → List ℕ → List ℕ → ℕ → Written
+unfoldable pub split_write_of : ℕ → ℕ → List ℕ → List ℕ → ℕ → Result Written Breach
 split_write_of P N b pages room =
     cond (count_allowed N)
-    (after_check (lent_check_of P b) Refused (written_of (is_leaf b) P N (node_size (is_leaf b) (entries_of (is_leaf b) b)) (block_pieces P b) pages room))
-    (Refused 1 0 0)
+    (and_then (lent_check_of P b) (written_of (is_leaf b) P N (node_size (is_leaf b) (entries_of (is_leaf b) b)) (block_pieces P b) pages room))
+    (Err (breach Geometry 0 0))
 
 -- the output afterwards: the packed pieces, then its old rest; a refusal changes nothing
-abbrev pub out_left : Written → List ℕ → List ℕ → List ℕ
-out_left (Pieces bytes count) made old = made ++ drop bytes old
-out_left (Refused number element common) made old = old
+abbrev pub out_left : Result Written Breach → List ℕ → List ℕ → List ℕ
+out_left (Ok w) made old = made ++ drop w.bytes old
+out_left (Err b) made old = old
 
 -- ---- as the code counts pages: no further than one past the most that an image has
 abbrev pub capped_spans : Bool → ℕ → List (List Entry) → List ℕ

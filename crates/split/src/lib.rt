@@ -14,11 +14,13 @@ ghost use Rattle.cuts.specs.Run.{piece_end, pieces_after, Ready};
 ghost use Rattle.split.specs.Write.{span_of, spans_of, placed, bytes_in, pack_all, capped_spans, written_of, block_pieces, split_write_of, out_left};
 
 use cuts::{add_capped, count_cuts, half, next_cut, run_end};
+use field::Refusal;
 use field::marks::{lowest_marked, mark_pages, no_marks};
 use field::sizes::count_allowed;
 use pack::edit::cut;
+use page::Breach;
 use page::layout::{count, is_leaf};
-use page::rules::{Verdict, lent_check};
+use page::rules::lent_check;
 use size::{NODE_HEADER, NODE_LIMIT, entry_size, node_size};
 
 // One past the most pages that an image has, and one past the bytes of the largest.
@@ -26,11 +28,11 @@ const PAGES_PAST: usize = 32769;
 
 const BYTES_PAST: usize = 2147483649;
 
-// What `split_write` answers: how many bytes and pieces it wrote, or a refusal with 01's number, the element and the length of a common beginning.
+// How many bytes and pieces a split wrote.
 #[derive(Clone, Copy)]
-pub enum Written {
-    Pieces(usize, usize),
-    Refused(u64, usize, usize),
+pub struct Written {
+    pub bytes: usize,
+    pub pieces: usize,
 }
 
 // Where the piece from entry `c` on ends.
@@ -39,11 +41,7 @@ fn piece_end(b: &[u8], leaf: bool, t: usize, end: usize, c: usize) -> usize
     requires c_bound { (c ≤ count_of b.now) × (end ≤ count_of b.now) × (40 ≤ t) × (t ≤ 65536) }
     ensures { (result ≡ piece_end leaf t b.now end c) × (c ≤ result) × (result ≤ count_of b.now) }
 {
-    let next = next_cut(b, leaf, t, end, c);
-    if next == 0 {
-        return count(b);
-    }
-    next
+    next_cut(b, leaf, t, end, c).unwrap_or(count(b))
 }
 
 // The node size of the entries from `i` to `j`, counted no further than one past the largest image.
@@ -53,11 +51,8 @@ fn piece_size(b: &[u8], leaf: bool, i: usize, j: usize) -> usize
     ensures { result ≡ min (node_size leaf (range leaf b.now i j)) 2147483649 }
 {
     let mut sum = NODE_HEADER;
-    let mut k = i;
-    while k < j {
-        let size = entry_size(b, leaf, k);
-        sum = add_capped(sum, size, BYTES_PAST);
-        k += 1;
+    for k in i..j {
+        sum = add_capped(sum, entry_size(b, leaf, k), BYTES_PAST);
     }
     sum
 }
@@ -68,11 +63,7 @@ fn span(b: &[u8], leaf: bool, p: usize, i: usize, j: usize) -> usize
     requires j_bound { (j ≤ count_of b.now) × (1024 ≤ p) × (p ≤ 65536) }
     ensures { result ≡ min (span_of leaf p (range leaf b.now i j)) 32769 }
 {
-    let pages = (piece_size(b, leaf, i, j) + (p - 1)) / p;
-    if PAGES_PAST < pages {
-        return PAGES_PAST;
-    }
-    pages
+    piece_size(b, leaf, i, j).div_ceil(p).min(PAGES_PAST)
 }
 
 // Whether the block of `k` pages from `q` on lies in the pages 2 to `n` - 1.
@@ -80,13 +71,7 @@ fn inside(n: usize, q: u64, k: usize) -> bool
     requires { n ≤ 32768 }
     ensures { result ≡ block_inside n q k }
 {
-    if q < 2 {
-        return false;
-    }
-    if (n as u64) < q {
-        return false;
-    }
-    k <= n - q as usize
+    2 <= q && q <= n as u64 && k <= n - q as usize
 }
 
 // Whether the block of each piece lies in the image of `n` pages, and no two overlap.
@@ -96,20 +81,18 @@ fn all_placed(b: &[u8], leaf: bool, p: usize, t: usize, end: usize, n: usize, pa
     ensures { result ≡ placed n pages.now (capped_spans leaf p (pieces_after leaf t b.now end (length pages.now) 0)) }
 {
     let mut marks = no_marks();
-    let mut at = 0;
     let mut c = 0;
-    while at < pages.len() {
+    for &page in pages {
         let e = piece_end(b, leaf, t, end, c);
         let k = span(b, leaf, p, c, e);
-        if !inside(n, pages[at], k) {
+        if !inside(n, page, k) {
             return false;
         }
-        let q = pages[at] as usize;
+        let q = page as usize;
         if lowest_marked(&marks, q, q + k) < q + k {
             return false;
         }
         mark_pages(&mut marks, q, q + k);
-        at += 1;
         c = e;
     }
     true
@@ -120,17 +103,15 @@ fn fits(b: &[u8], leaf: bool, p: usize, t: usize, end: usize, pieces: usize, roo
     requires { Ready leaf b.now p t end }
     ensures { result ≡ leb (bytes_in p (capped_spans leaf p (pieces_after leaf t b.now end pieces 0))) room }
 {
-    let mut left = pieces;
     let mut rest = room;
     let mut c = 0;
-    while 0 < left {
+    for _ in 0..pieces {
         let e = piece_end(b, leaf, t, end, c);
         let size = span(b, leaf, p, c, e) * p;
         if rest < size {
             return false;
         }
         rest -= size;
-        left -= 1;
         c = e;
     }
     true
@@ -171,21 +152,25 @@ fn write_pieces(
     ensures { (result ≡ bytes_in p (spans_of leaf p (pieces_after leaf t b.now end (length pages.now) 0)))
         × (out.new ≡ put_at out.old 0 (pack_all leaf p pages.now (pieces_after leaf t b.now end (length pages.now) 0))) }
 {
-    let mut i = 0;
     let mut c = 0;
     let mut at = 0;
-    while i < pages.len() {
+    for &id in pages {
         let e = piece_end(b, leaf, t, end, c);
-        let id = pages[i];
         at = write_piece(b, leaf, p, c, e, id, out, at);
-        i += 1;
         c = e;
     }
     at
 }
 
 // The pieces of a sound block into the output, with the lent list of their pages, and how many bytes and pieces they are.
-fn write_sound(b: &[u8], leaf: bool, p: usize, n: usize, pages: &[u64], out: &mut [u8]) -> Written
+fn write_sound(
+    b: &[u8],
+    leaf: bool,
+    p: usize,
+    n: usize,
+    pages: &[u64],
+    out: &mut [u8],
+) -> Result<Written, Breach>
     requires sound_block { SoundBlock leaf true b.now }
     requires p_value { (size_allowed p ≡ true) × (count_allowed n ≡ true) }
     ensures { (result ≡ written_of leaf p n (node_size leaf (entries_of leaf b.now)) (pieces_of leaf p (entries_of leaf b.now)) pages.now (length out.old))
@@ -196,31 +181,35 @@ fn write_sound(b: &[u8], leaf: bool, p: usize, n: usize, pages: &[u64], out: &mu
     let end = run_end(b, leaf, p, size);
     let pieces = count_cuts(b, leaf, t, end) + 1;
     if pages.len() != pieces {
-        return Written::Refused(11, 0, 0);
+        return Err(Breach::from(Refusal::Argument));
     }
     if !all_placed(b, leaf, p, t, end, n, pages) {
-        return Written::Refused(11, 0, 0);
+        return Err(Breach::from(Refusal::Argument));
     }
     if NODE_LIMIT < size {
-        return Written::Refused(15, 0, 0);
+        return Err(Breach::from(Refusal::NodeTooLarge));
     }
     if !fits(b, leaf, p, t, end, pieces, out.len()) {
-        return Written::Refused(10, 0, 0);
+        return Err(Breach::from(Refusal::OutputShort));
     }
     let bytes = write_pieces(b, leaf, p, t, end, pages, out);
-    Written::Pieces(bytes, pieces)
+    Ok(Written { bytes, pieces })
 }
 
 // The pieces of a lent block into the output, each with its page of the lent list, in an image of `n` pages.
-pub fn split_write(b: &[u8], p: usize, n: usize, pages: &[u64], out: &mut [u8]) -> Written
+pub fn split_write(
+    b: &[u8],
+    p: usize,
+    n: usize,
+    pages: &[u64],
+    out: &mut [u8],
+) -> Result<Written, Breach>
     ensures { (result ≡ split_write_of p n b.now pages.now (length out.old))
         × (out.new ≡ out_left result (pack_all (is_leaf b.now) p pages.now (block_pieces p b.now)) out.old) }
 {
     if !count_allowed(n) {
-        return Written::Refused(1, 0, 0);
+        return Err(Breach::from(Refusal::Geometry));
     }
-    match lent_check(b, p) {
-        Verdict::Breach(number, i, common) => Written::Refused(number, i, common),
-        Verdict::Sound => write_sound(b, is_leaf(b), p, n, pages, out),
-    }
+    lent_check(b, p)?;
+    write_sound(b, is_leaf(b), p, n, pages, out)
 }

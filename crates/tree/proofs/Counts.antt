@@ -17,13 +17,13 @@ use Rattle.walk.proofs.Theorems as tree
 use Rattle.view.specs.View.{view_of, pages_at, pages_of}
 use Rattle.view.proofs.ViewLaws.{checked}
 use Rattle.view.proofs.PagesLaws.{pages_distinct, of_distinct}
-use Rattle.judge.specs.declared.Judged.TheVariants.{Sound}
-use Rattle.judge.specs.Judge.{judge_of}
+use Rattle.std.specs.Prelude.{Ok}
+use Rattle.judge.specs.Judge.{counts, judge_of}
 use Rattle.tree.specs.Sound.{InBlock, UsedFrom}
 use Rattle.tree.proofs.UsedPages.{block_iff}
 use Rattle.tree.proofs.PassesSound.{Passed, judge_passed, visited_iff}
 
-module _ (image : List ℕ) (P N root f entries pages : ℕ) (passed : judge_of image P N root f ≡ Sound entries pages) where
+module _ (image : List ℕ) (P N root f entries pages : ℕ) (passed : judge_of image P N root f ≡ Ok (counts entries pages)) where
   p : Passed image P N root f entries pages
   p = judge_passed image P N root f entries pages passed
 

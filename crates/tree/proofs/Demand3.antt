@@ -11,6 +11,8 @@ use native.Mathlib.Nat.{zero-add, sub-zero}
 use native.Mathlib.Omega.{arith}
 use lib.ListN.{length, get_or, take, drop, length-drop}
 use lib.Seq.{drop-drop, take-take, take-nil, length-take-le, get_or-take, get_or-drop, ext_get_or}
+use Rattle.std.specs.Prelude.{Some, None, Ok, Err}
+use Rattle.field.specs.declared.refusal.Refusal.TheVariants.{Geometry}
 use Rattle.page.specs.Layout.{count_of, overflow_of, value_at, value_size, value_of}
 use Rattle.page.specs.PageRules.{block_of}
 use Rattle.walk.specs.Tree.{Key, Item, View, bad, branch, leaf, Answer, refused, found, absent, lookup, same, seek_from, LeafEntry}
@@ -18,8 +20,7 @@ use Rattle.walk.specs.Sound.{Sound}
 use Rattle.walk.proofs.Theorems as tree
 use Rattle.view.specs.declared.Fault.{Fault}
 use Rattle.view.specs.declared.Value.{Value}
-use Rattle.lookup.specs.declared.Looked.{Looked}
-use Rattle.lookup.specs.declared.Looked.TheVariants.{Found, Absent, Refused}
+use Rattle.lookup.specs.Descent.{Looked}
 use Rattle.view.specs.Geometry.{geometry_bad}
 use Rattle.view.specs.View.{value_item, view_of, pages_of}
 use Rattle.view.specs.Fault.{fault_at}
@@ -119,20 +120,20 @@ module _ (image : List ℕ) (P N root f : ℕ) (passes : Passes image P N root f
       }
 
   -- ---- lookup doesn't refuse
-  never_refused_lem : (key : Key) (x : Fault) → lookup_of image P N root key ≡ Refused x → ⊥
+  never_refused_lem : (key : Key) (x : Fault) → lookup_of image P N root key ≡ Err x → ⊥
   never_refused_lem key x e = go (lookup N view 16 true root key) refl (sym (looks key) ∙ e)
     where
-      go : (a : Answer Value) → lookup N view 16 true root key ≡ a → looked_of a ≡ Refused x → ⊥
+      go : (a : Answer Value) → lookup N view 16 true root key ≡ a → looked_of a ≡ Err x → ⊥
       go (refused r q i c) h g = tree.never_refused_lem N (pages_of image P N) view (checked image P N) root passes.entries p.visited p.walked key r q i c h
       go (found y q i) h g = let z : ◌≡◌ {A = ℕ} 0 1 = cc in omega arith
       go absent h g = let z : ◌≡◌ {A = ℕ} 0 1 = cc in omega arith
 
   -- ---- it says found exactly when some leaf reached from that root holds the key, and shows that entry
   found_iff_lem : (key : Key) (v : Value)
-      → (lookup_of image P N root key ≡ Found v) ↔ ((page : ℕ) × (i : ℕ) × Holds image P N root key page i × (v ≡ value_held image P page i))
+      → (lookup_of image P N root key ≡ Ok (Some v)) ↔ ((page : ℕ) × (i : ℕ) × Holds image P N root key page i × (v ≡ value_held image P page i))
   found_iff_lem key v = (λ e. there (lookup N view 16 true root key) refl (sym (looks key) ∙ e), back)
     where
-      there : (a : Answer Value) → lookup N view 16 true root key ≡ a → looked_of a ≡ Found v
+      there : (a : Answer Value) → lookup N view 16 true root key ≡ a → looked_of a ≡ Ok (Some v)
           → (page : ℕ) × (i : ℕ) × Holds image P N root key page i × (v ≡ value_held image P page i)
       there (refused r q i c) h g = absurd (let z : ◌≡◌ {A = ℕ} 0 1 = cc in omega arith)
       there (found y q i) h g =
@@ -142,23 +143,23 @@ module _ (image : List ℕ) (P N root f : ℕ) (passes : Passes image P N root f
           (q, i, rw x.1 at w.0, sym u ∙ ap (λ (e : Item Value). e.value) w.1)
       there absent h g = absurd (let z : ◌≡◌ {A = ℕ} 0 1 = cc in omega arith)
 
-      back : ((page : ℕ) × (i : ℕ) × Holds image P N root key page i × (v ≡ value_held image P page i)) → lookup_of image P N root key ≡ Found v
+      back : ((page : ℕ) × (i : ℕ) × Holds image P N root key page i × (v ≡ value_held image P page i)) → lookup_of image P N root key ≡ Ok (Some v)
       back (q, i, h, e) =
           let x = (tree.found_iff_lem N (pages_of image P N) view (checked image P N) root passes.entries p.visited p.walked key (value_item (q * P) (block_of image P q) i) q i).1
           (holds_entry key q i h, h.has_key) in
-          looks key ∙ ap looked_of x ∙ ap Found (sym e)
+          looks key ∙ ap looked_of x ∙ ap (λ (w : Value). Ok (Some w)) (sym e)
 
-  absent_iff_lem : (key : Key) → (lookup_of image P N root key ≡ Absent) ↔ ((page i : ℕ) → Holds image P N root key page i → ⊥)
+  absent_iff_lem : (key : Key) → (lookup_of image P N root key ≡ Ok None) ↔ ((page i : ℕ) → Holds image P N root key page i → ⊥)
   absent_iff_lem key = (λ e. there (lookup N view 16 true root key) refl (sym (looks key) ∙ e), back)
     where
-      there : (a : Answer Value) → lookup N view 16 true root key ≡ a → looked_of a ≡ Absent → (page i : ℕ) → Holds image P N root key page i → ⊥
+      there : (a : Answer Value) → lookup N view 16 true root key ≡ a → looked_of a ≡ Ok None → (page i : ℕ) → Holds image P N root key page i → ⊥
       there (refused r q i c) h g page j x = let z : ◌≡◌ {A = ℕ} 0 1 = cc in omega arith
       there (found y q i) h g page j x = let z : ◌≡◌ {A = ℕ} 0 1 = cc in omega arith
       there absent h g page j x =
           (tree.absent_iff_lem N (pages_of image P N) view (checked image P N) root passes.entries p.visited p.walked key).0 h page j
           (value_item (page * P) (block_of image P page) j) (holds_entry key page j x) x.has_key
 
-      back : ((page i : ℕ) → Holds image P N root key page i → ⊥) → lookup_of image P N root key ≡ Absent
+      back : ((page i : ℕ) → Holds image P N root key page i → ⊥) → lookup_of image P N root key ≡ Ok None
       back n =
           looks key
           ∙ ap looked_of
@@ -181,7 +182,7 @@ module _ (image : List ℕ) (P N root f : ℕ) (passes : Passes image P N root f
     where
       there : (page : ℕ) (es : List (Item Value)) (v : Value) (a : Answer Value) → lookup N view 16 true root key ≡ a
           → lookup N view 16 true root key ≡ seek_from es key page 0
-          → looked_of a ≡ Found v
+          → looked_of a ≡ Ok (Some v)
           → (i : ℕ) × Holds image P N root key page i × (v ≡ value_held image P page i)
       there page es v (refused r q i c) h s g = absurd (let z : ◌≡◌ {A = ℕ} 0 1 = cc in omega arith)
       there page es v (found y q i) h s g =
@@ -194,7 +195,7 @@ module _ (image : List ℕ) (P N root f : ℕ) (passes : Passes image P N root f
 
   -- ---- the value shown is the entry's
   value_shown_lem : (key : Key) (page i : ℕ) → Holds image P N root key page i
-      → value_in image (Found (value_held image P page i)) ≡ value_of true (block_of image P page) i
+      → value_in image (Ok (Some (value_held image P page i))) ≡ value_of true (block_of image P page) i
   unfolding value_of
   value_shown_lem key q i h =
       let b : List ℕ = block_of image P q in
@@ -216,7 +217,7 @@ module _ (image : List ℕ) (P N root f : ℕ) (passes : Passes image P N root f
   unfolding lookup_of geometry_bad
   outside_free_lem image' same key =
       rw same.same_length
-      (ap (λ (a : Answer Value). cond (geometry_bad image P N) (Refused (fault_at 1 0 0 0)) (looked_of a))
+      (ap (λ (a : Answer Value). cond (geometry_bad image P N) (Err (fault_at Geometry 0 0 0)) (looked_of a))
       (tree.lookup_framed N view (view_of image' P N) root
       (λ q s r. same_view image P N q (ends q r) p.sizes.holds image' p.sizes.least_size same.same_length (λ k. same.same_bytes q k r) s)
       key))
@@ -236,7 +237,7 @@ module _ (image : List ℕ) (P N root f : ℕ) (passes : Passes image P N root f
           get_or-take n (drop k image') j 0 (omega arith) ∙ get_or-drop k image' j 0 ∙ h j (omega arith)
           ∙ sym (get_or-take n (drop k image) j 0 (omega arith) ∙ get_or-drop k image j 0))
 
-      held : (page i : ℕ) → Holds image P N root key page i → value_in image' (Found (value_held image P page i)) ≡ value_in image (Found (value_held image P page i))
+      held : (page i : ℕ) → Holds image P N root key page i → value_in image' (Ok (Some (value_held image P page i))) ≡ value_in image (Ok (Some (value_held image P page i)))
       held page i h =
           let w = (leaf_view key page i h).2.sound.within i h.index in
           let f = block_end image P N page (ends page h.reached) p.sizes.holds in
@@ -245,9 +246,9 @@ module _ (image : List ℕ) (P N root f : ℕ) (passes : Passes image P N root f
           (λ j m. same.same_bytes page (page * P + value_at true (block_of image P page) i + j) h.reached (omega arith) (omega arith))
 
       go : (a : Looked) → lookup_of image P N root key ≡ a → value_in image' a ≡ value_in image a
-      go (Found v) e = let x = (found_iff_lem key v).0 e in rw x.3 (held x.0 x.1 x.2)
-      go Absent e = refl
-      go (Refused x) e = refl
+      go (Ok (Some v)) e = let x = (found_iff_lem key v).0 e in rw x.3 (held x.0 x.1 x.2)
+      go (Ok None) e = refl
+      go (Err x) e = refl
 
   -- ---- all of it
   pub demand3 : Demand3In (λ s. lookup_of s P N root) image P N root

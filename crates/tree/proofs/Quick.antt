@@ -4,10 +4,10 @@
 use mathlib.Core.Path.{◌≡◌, sym, ◌∙◌}
 use mathlib.Core.List.{List}
 use Prim.Native.Nat.{ℕ}
+use Rattle.std.specs.Prelude.{Err}
 use Rattle.walk.specs.Tree.{Key}
 use Rattle.view.specs.declared.Fault.{Fault}
-use Rattle.lookup.specs.declared.Looked.{Looked}
-use Rattle.lookup.specs.declared.Looked.TheVariants.{Refused}
+use Rattle.lookup.specs.Descent.{Looked}
 use Rattle.lookup.specs.Lookup.{lookup_of}
 use Rattle.quick.specs.Quick.{quick_of}
 use Rattle.quick.proofs.Agrees.{quick_agrees}
@@ -17,7 +17,7 @@ use Rattle.tree.specs.Demand3.{Demand3, Demand3In}
 use Rattle.tree.proofs.Demand3.{demand3}
 
 module _ {Lent : Type 0} (look look' : Lent → Key → Looked) (image_of : Lent → List ℕ) (Same : Lent → Lent → Type 0) (P N root : ℕ) (lent : Lent)
-    (agrees : (l : Lent) (key : Key) → ((x : Fault) → look l key ≡ Refused x → ⊥) → look' l key ≡ look l key)
+    (agrees : (l : Lent) (key : Key) → ((x : Fault) → look l key ≡ Err x → ⊥) → look' l key ≡ look l key)
     (d : Demand3 look image_of Same P N root lent)
   where
     -- no key is refused by the one, so the other answers all keys the same

@@ -9,6 +9,7 @@ use mathlib.Core.Option.{none}
 use Prim.Native.Nat.{ℕ, ◌+◌, ◌*◌}
 use native.Mathlib.Omega.{arith}
 use lib.ListN.{drop}
+use Rattle.field.specs.declared.refusal.Refusal.{Refusal}
 use Rattle.page.specs.Layout.{overflow_of}
 use Rattle.page.specs.PageRules.{header_bad}
 use Rattle.walk.specs.Tree.{bad, memb, Used}
@@ -26,7 +27,7 @@ block_iff image P q k = (
 )
 
 module _ (image : List ℕ) (P N root : ℕ) (sound : Sound (view_of image P N) (pages_of image P N) N 16 root true [] none) where
-  pub reached_seen : (q : ℕ) (x : ReachedFrom image P N root q) (r e c : ℕ) → view_of image P N q x.top ≡ bad r e c → ⊥
+  pub reached_seen : (q : ℕ) (x : ReachedFrom image P N root q) (r : Refusal) (e c : ℕ) → view_of image P N q x.top ≡ bad r e c → ⊥
   reached_seen q x =
       let w = below_way (view_of image P N) [] none x.way in
       (sound.each w.0 q x.top w.1 w.2 w.3).seen

@@ -3,7 +3,7 @@
 #![tactic(auto)]
 
 use meta::fnv::fnv1a;
-use meta::{Meta, MetaRead, MetaWritten, read_meta, write_meta};
+use meta::{Meta, read_meta, write_meta};
 use std::io;
 
 // Prints a text, in quotes, and its hash.
@@ -21,40 +21,42 @@ fn hash_line(rt: &impl Print, name: &str, hash: u64) -> io::Result<()> {
     println!(rt; "{name} {hash:016x}")
 }
 
-// Prints the vectors of one letter and those up to foobar.
-fn short_vectors(rt: &impl Print) -> io::Result<()> {
-    vector(rt, "")?;
-    vector(rt, "a")?;
-    vector(rt, "b")?;
-    vector(rt, "c")?;
-    vector(rt, "d")?;
-    vector(rt, "e")?;
-    vector(rt, "f")?;
-    vector(rt, "fo")?;
-    vector(rt, "foo")?;
-    vector(rt, "foob")?;
-    vector(rt, "fooba")?;
-    vector(rt, "foobar")
-}
-
-// Prints the vectors up to "chongo was here!", and hello.
-fn long_vectors(rt: &impl Print) -> io::Result<()> {
-    vector(rt, "ch")?;
-    vector(rt, "cho")?;
-    vector(rt, "chon")?;
-    vector(rt, "chong")?;
-    vector(rt, "chongo")?;
-    vector(rt, "chongo was")?;
-    vector(rt, "chongo was here")?;
-    vector(rt, "chongo was here!")?;
-    vector(rt, "hello")
+// Prints the published vectors of one letter, those up to foobar and up to "chongo was here!", and hello.
+fn vectors(rt: &impl Print) -> io::Result<()> {
+    let texts = [
+        "",
+        "a",
+        "b",
+        "c",
+        "d",
+        "e",
+        "f",
+        "fo",
+        "foo",
+        "foob",
+        "fooba",
+        "foobar",
+        "ch",
+        "cho",
+        "chon",
+        "chong",
+        "chongo",
+        "chongo was",
+        "chongo was here",
+        "chongo was here!",
+        "hello",
+    ];
+    for text in texts {
+        vector(rt, text)?;
+    }
+    Ok(())
 }
 
 // Prints the fields of a meta.
 fn print_meta(rt: &impl Print, m: Meta) -> io::Result<()> {
-    line(rt, "meta_page", m.meta_page as u64)?;
-    line(rt, "magic", m.magic as u64)?;
-    line(rt, "version", m.version as u64)?;
+    line(rt, "meta_page", u64::from(m.meta_page))?;
+    line(rt, "magic", u64::from(m.magic))?;
+    line(rt, "version", u64::from(m.version))?;
     line(rt, "pagesize", m.pagesize)?;
     line(rt, "root_page", m.root_page)?;
     line(rt, "next_int", m.next_int)?;
@@ -67,16 +69,16 @@ fn print_meta(rt: &impl Print, m: Meta) -> io::Result<()> {
 // Prints what reading the page answers.
 fn try_read(rt: &impl Print, page: &[u8]) -> io::Result<()> {
     match read_meta(page) {
-        MetaRead::Read(m) => print_meta(rt, m),
-        MetaRead::Refused(number) => line(rt, "read refused", number),
+        Ok(m) => print_meta(rt, m),
+        Err(refusal) => line(rt, "read refused", u64::from(refusal)),
     }
 }
 
 // Prints what writing to the page answers, and a hash of all its bytes afterwards.
 fn try_write(rt: &impl Print, page: &mut [u8], m: Meta) -> io::Result<()> {
     match write_meta(page, m) {
-        MetaWritten::Written(hash) => hash_line(rt, "written", hash)?,
-        MetaWritten::Refused(number) => line(rt, "write refused", number)?,
+        Ok(hash) => hash_line(rt, "written", hash)?,
+        Err(refusal) => line(rt, "write refused", u64::from(refusal))?,
     }
     hash_line(rt, "page", fnv1a(page))
 }
@@ -118,7 +120,7 @@ fn try_refused(rt: &impl Print, page: &mut [u8]) -> io::Result<()> {
 // Prints the answers for the page with another hash, for it with another type, and for 103 bytes.
 fn refusals(rt: &impl Print, page: [u8; 128]) -> io::Result<()> {
     let mut flipped = page;
-    flipped[96] = flipped[96] ^ 255;
+    flipped[96] ^= 255;
     try_read(rt, &flipped)?;
     let mut leaf = page;
     leaf[8] = 2;
@@ -129,8 +131,7 @@ fn refusals(rt: &impl Print, page: [u8; 128]) -> io::Result<()> {
 
 // Prints the vectors, a meta page written and read back, and the refusals.
 fn main(rt: HostRuntime) -> io::Result<()> {
-    short_vectors(&rt)?;
-    long_vectors(&rt)?;
+    vectors(&rt)?;
     let mut page = [165u8; 128];
     page[8] = 3;
     try_write(&rt, &mut page, sample())?;

@@ -15,6 +15,7 @@ use Rattle.walk.proofs.Pages.{memb_head, memb_tail, memb_cases}
 use Rattle.view.specs.declared.Value.{Value}
 use Rattle.view.specs.View.{view_of, pages_from, pages_at, pages_of}
 use Rattle.view.proofs.ViewLaws.{view_branch, view_leaf}
+use Rattle.field.specs.declared.refusal.Refusal.{Refusal}
 
 -- ---- k pages from q on
 pub length_pages : (q k : ℕ) → length (pages_from q k) ≡ k
@@ -69,7 +70,7 @@ module _ (image : List ℕ) (P N q : ℕ) where
       go false = pages_distinct q (overflow_of (drop (q * P) image) + 1)
 
   -- a page that is not refused has a sound header, and so all pages of its block
-  pub view_header : (top : Bool) → ((r e c : ℕ) → view_of image P N q top ≡ bad r e c → ⊥) → header_bad N q (drop (q * P) image) ≡ false
+  pub view_header : (top : Bool) → ((r : Refusal) (e c : ℕ) → view_of image P N q top ≡ bad r e c → ⊥) → header_bad N q (drop (q * P) image) ≡ false
   view_header top f = go (view_of image P N q top) refl
     where
       go : (v : View Value) → view_of image P N q top ≡ v → header_bad N q (drop (q * P) image) ≡ false
@@ -77,5 +78,5 @@ module _ (image : List ℕ) (P N q : ℕ) where
       go (branch cs) h = (view_branch image P N q top cs h).header
       go (leaf es) h = (view_leaf image P N q top es h).header
 
-  pub view_pages : (top : Bool) → ((r e c : ℕ) → view_of image P N q top ≡ bad r e c → ⊥) → pages_of image P N q ≡ pages_at image P q
+  pub view_pages : (top : Bool) → ((r : Refusal) (e c : ℕ) → view_of image P N q top ≡ bad r e c → ⊥) → pages_of image P N q ≡ pages_at image P q
   view_pages top f = pages_good (view_header top f)

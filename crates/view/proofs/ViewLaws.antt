@@ -7,15 +7,16 @@ use Prim.Native.Nat.{ℕ, zero, suc, ◌+◌, ◌*◌, ◌≤◌, ◌<◌}
 use native.Mathlib.Nat.{add-zero}
 use native.Mathlib.Omega.{arith}
 use lib.ListN.{length, drop}
-use Rattle.page.specs.declared.rules.Verdict.{Verdict}
-use Rattle.page.specs.declared.rules.Verdict.TheVariants.{Sound, Breach}
 use Rattle.page.specs.Layout.{count_of, is_leaf}
-use Rattle.page.specs.PageRules.{header_bad, block_of, check_of, SoundBlock, after_check}
+use Rattle.page.specs.PageRules.{header_bad, block_of, check_of, SoundBlock, after_check, breach, Verdict}
 use Rattle.page.proofs.RuleLaws.{sound_iff}
 use Rattle.walk.specs.Tree.{Item, bad, branch, leaf, keys, At, Rising, lower, Checked}
 use Rattle.walk.proofs.KeyLaws.{order_lower}
 use Rattle.view.specs.declared.Value.{Value}
 use Rattle.view.specs.View.{row, child_item, value_item, elements_view, block_view, view_of}
+use Rattle.std.specs.Prelude.{Ok, Err}
+use Rattle.field.specs.declared.refusal.Refusal.TheVariants.{Header}
+use Rattle.field.specs.declared.refusal.Refusal.{Refusal}
 
 -- ---- rows
 module _ {A : Type 0} (f : ℕ → A) where
@@ -78,22 +79,22 @@ module _ (image : List ℕ) (P N q : ℕ) (top : Bool) where
   block_branch : (start : ℕ) (cs : List (Item ℕ)) (s : List ℕ) (l : Bool) → is_leaf s ≡ l → (v : Verdict) → check_of l (top && l) s ≡ v
       → after_check v bad (elements_view l start s) ≡ branch cs
       → (l ≡ false) × (SoundBlock false false s) × (cs ≡ row (child_item s) (count_of s) 0)
-  block_branch start cs s true i Sound c e = absurd (let z : ◌≡◌ {A = ℕ} 0 1 = cc in omega arith)
-  block_branch start cs s false i Sound c e = (refl, (sound_iff false false s).0 (rw (and-false top) at c), cc)
-  block_branch start cs s l i (Breach r x m) c e = absurd (let z : ◌≡◌ {A = ℕ} 0 1 = cc in omega arith)
+  block_branch start cs s true i (Ok u) c e = absurd (let z : ◌≡◌ {A = ℕ} 0 1 = cc in omega arith)
+  block_branch start cs s false i (Ok u) c e = (refl, (sound_iff false false s).0 (rw (and-false top) at c), cc)
+  block_branch start cs s l i (Err v) c e = absurd (let z : ◌≡◌ {A = ℕ} 0 1 = cc in omega arith)
 
   block_leaf : (start : ℕ) (es : List (Item Value)) (s : List ℕ) (l : Bool) → is_leaf s ≡ l → (v : Verdict) → check_of l (top && l) s ≡ v
       → after_check v bad (elements_view l start s) ≡ leaf es
       → (l ≡ true) × (SoundBlock true top s) × (es ≡ row (value_item start s) (count_of s) 0)
-  block_leaf start es s false i Sound c e = absurd (let z : ◌≡◌ {A = ℕ} 0 1 = cc in omega arith)
-  block_leaf start es s true i Sound c e = (refl, (sound_iff true top s).0 (rw (and-true top) at c), cc)
-  block_leaf start es s l i (Breach r x m) c e = absurd (let z : ◌≡◌ {A = ℕ} 0 1 = cc in omega arith)
+  block_leaf start es s false i (Ok u) c e = absurd (let z : ◌≡◌ {A = ℕ} 0 1 = cc in omega arith)
+  block_leaf start es s true i (Ok u) c e = (refl, (sound_iff true top s).0 (rw (and-true top) at c), cc)
+  block_leaf start es s l i (Err v) c e = absurd (let z : ◌≡◌ {A = ℕ} 0 1 = cc in omega arith)
 
   pub view_branch : (cs : List (Item ℕ)) → view_of image P N q top ≡ branch cs → BranchBlock image P N q cs
   unfolding view_of block_view
   view_branch cs e = go (header_bad N q (drop (q * P) image)) refl e
     where
-      go : (t : Bool) → header_bad N q (drop (q * P) image) ≡ t → cond t (bad 3 0 0) (block_view (q * P) top b) ≡ branch cs → BranchBlock image P N q cs
+      go : (t : Bool) → header_bad N q (drop (q * P) image) ≡ t → cond t (bad Header 0 0) (block_view (q * P) top b) ≡ branch cs → BranchBlock image P N q cs
       go true h f = absurd (let z : ◌≡◌ {A = ℕ} 0 1 = cc in omega arith)
       go false h f =
           let x = block_branch (q * P) cs b (is_leaf b) refl (check_of (is_leaf b) (top && is_leaf b) b) refl f in
@@ -103,23 +104,23 @@ module _ (image : List ℕ) (P N q : ℕ) (top : Bool) where
   unfolding view_of block_view
   view_leaf es e = go (header_bad N q (drop (q * P) image)) refl e
     where
-      go : (t : Bool) → header_bad N q (drop (q * P) image) ≡ t → cond t (bad 3 0 0) (block_view (q * P) top b) ≡ leaf es → LeafBlock image P N q top es
+      go : (t : Bool) → header_bad N q (drop (q * P) image) ≡ t → cond t (bad Header 0 0) (block_view (q * P) top b) ≡ leaf es → LeafBlock image P N q top es
       go true h f = absurd (let z : ◌≡◌ {A = ℕ} 0 1 = cc in omega arith)
       go false h f =
           let x = block_leaf (q * P) es b (is_leaf b) refl (check_of (is_leaf b) (top && is_leaf b) b) refl f in
           record { header = h; kind = x.0; sound = x.1; items = x.2 }
 
   -- ---- and put together
-  pub bad_header : header_bad N q (drop (q * P) image) ≡ true → view_of image P N q top ≡ bad 3 0 0
+  pub bad_header : header_bad N q (drop (q * P) image) ≡ true → view_of image P N q top ≡ bad Header 0 0
   unfolding view_of
   bad_header h = rw h
 
   module _ (s : List ℕ) (is : s ≡ block_of image P q) (header : header_bad N q (drop (q * P) image) ≡ false) where
-    bad_block : (r e m : ℕ) → check_of (is_leaf b) (top && is_leaf b) b ≡ Breach r e m → view_of image P N q top ≡ bad r e m
+    bad_block : (r : Refusal) (e m : ℕ) → check_of (is_leaf b) (top && is_leaf b) b ≡ Err (breach r e m) → view_of image P N q top ≡ bad r e m
     unfolding view_of block_view
     bad_block r e m c = rw (header, c)
 
-    good_block : check_of (is_leaf b) (top && is_leaf b) b ≡ Sound → view_of image P N q top ≡ elements_view (is_leaf b) (q * P) b
+    good_block : check_of (is_leaf b) (top && is_leaf b) b ≡ Ok tt → view_of image P N q top ≡ elements_view (is_leaf b) (q * P) b
     unfolding view_of block_view
     good_block c = rw (header, c)
 
@@ -129,21 +130,21 @@ module _ (image : List ℕ) (P N q : ℕ) (top : Bool) where
     branch_check : (v : Verdict) → is_leaf s ≡ false → check_of false false s ≡ v → check_of (is_leaf b) (top && is_leaf b) b ≡ v
     branch_check v l c = let k : is_leaf b ≡ false = rw is at l in rw (k, and-false top) (rw is at c)
 
-    pub leaf_bad_lem : (r e m : ℕ) → is_leaf s ≡ true → check_of true top s ≡ Breach r e m → view_of image P N q top ≡ bad r e m
-    leaf_bad_lem r e m l c = bad_block r e m (leaf_check (Breach r e m) l c)
+    pub leaf_bad_lem : (r : Refusal) (e m : ℕ) → is_leaf s ≡ true → check_of true top s ≡ Err (breach r e m) → view_of image P N q top ≡ bad r e m
+    leaf_bad_lem r e m l c = bad_block r e m (leaf_check (Err (breach r e m)) l c)
 
-    pub branch_bad_lem : (r e m : ℕ) → is_leaf s ≡ false → check_of false false s ≡ Breach r e m → view_of image P N q top ≡ bad r e m
-    branch_bad_lem r e m l c = bad_block r e m (branch_check (Breach r e m) l c)
+    pub branch_bad_lem : (r : Refusal) (e m : ℕ) → is_leaf s ≡ false → check_of false false s ≡ Err (breach r e m) → view_of image P N q top ≡ bad r e m
+    branch_bad_lem r e m l c = bad_block r e m (branch_check (Err (breach r e m)) l c)
 
-    pub leaf_good : is_leaf s ≡ true → check_of true top s ≡ Sound → view_of image P N q top ≡ leaf (row (value_item (q * P) s) (count_of s) 0)
+    pub leaf_good : is_leaf s ≡ true → check_of true top s ≡ Ok tt → view_of image P N q top ≡ leaf (row (value_item (q * P) s) (count_of s) 0)
     leaf_good l c =
         let k : is_leaf b ≡ true = rw is at l in
-        good_block (leaf_check Sound l c) ∙ rw k (ap (λ (x : List ℕ). leaf (row (value_item (q * P) x) (count_of x) 0)) (sym is))
+        good_block (leaf_check (Ok tt) l c) ∙ rw k (ap (λ (x : List ℕ). leaf (row (value_item (q * P) x) (count_of x) 0)) (sym is))
 
-    pub branch_good : is_leaf s ≡ false → check_of false false s ≡ Sound → view_of image P N q top ≡ branch (row (child_item s) (count_of s) 0)
+    pub branch_good : is_leaf s ≡ false → check_of false false s ≡ Ok tt → view_of image P N q top ≡ branch (row (child_item s) (count_of s) 0)
     branch_good l c =
         let k : is_leaf b ≡ false = rw is at l in
-        good_block (branch_check Sound l c) ∙ rw k (ap (λ (x : List ℕ). branch (row (child_item x) (count_of x) 0)) (sym is))
+        good_block (branch_check (Ok tt) l c) ∙ rw k (ap (λ (x : List ℕ). branch (row (child_item x) (count_of x) 0)) (sym is))
 
 -- ---- what a page's own check has seen to
 pub checked : (image : List ℕ) (P N : ℕ) → Checked (view_of image P N)

@@ -1,4 +1,4 @@
--- A page of an image, as the walk and the lookup view it: refused with a number, an element and the length of a common beginning, a branch's
+-- A page of an image, as the walk and the lookup view it: refused with a cause, an element and the length of a common beginning, a branch's
 -- separators with their children, or a leaf's keys, each with what lookup tells of its entry; and the pages that its block takes up.
 -- Assumes nothing.
 use Rattle.std.specs.Prelude.{Bool, true, false, cond, ◌&&◌, List, [], ◌∷◌, ℕ, zero, suc, ◌+◌, ◌*◌, drop}
@@ -6,6 +6,7 @@ use Rattle.page.specs.Layout.{count_of, overflow_of, is_leaf, page_of, kind_of, 
 use Rattle.page.specs.PageRules.{after_check, header_bad, block_of, check_of}
 use Rattle.walk.specs.Tree.{Item, View, bad, branch, leaf}
 use Rattle.view.specs.declared.Value.{Value}
+use Rattle.field.specs.declared.refusal.Refusal.TheVariants.{Header}
 
 -- ---- the elements of a block
 -- the k of a row from i on
@@ -32,7 +33,7 @@ block_view start top b = after_check (check_of (is_leaf b) (top && is_leaf b) b)
 
 -- ---- page q of an image, as the root or not: rule 4, then its block
 unfoldable pub view_of : List ℕ → ℕ → ℕ → ℕ → Bool → View Value
-view_of image P N q top = cond (header_bad N q (drop (q * P) image)) (bad 3 0 0) (block_view (q * P) top (block_of image P q))
+view_of image P N q top = cond (header_bad N q (drop (q * P) image)) (bad Header 0 0) (block_view (q * P) top (block_of image P q))
 
 -- ---- the pages of a block
 -- the k pages from q on

@@ -4,13 +4,15 @@
 
 pub mod image;
 
+use field::Refusal;
+
 // The most levels that a tree has.
 pub const LEVELS: usize = 16;
 
-// A refusal: 01's number, the page and element that it names, and the length of the common beginning of the two keys that it speaks of; 0 where there is none.
+// A refusal: its cause, the page and element that it names, and the length of the common beginning of the two keys that it speaks of; 0 where there is none.
 #[derive(Clone, Copy)]
 pub struct Fault {
-    pub number: u64,
+    pub refusal: Refusal,
     pub page: usize,
     pub element: usize,
     pub common: usize,

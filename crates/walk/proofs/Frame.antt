@@ -8,6 +8,7 @@ use mathlib.Core.Option.{Option, none}
 use mathlib.Core.Logic.{◌⊎◌, inl, inr, ⊎_elim}
 use Rattle.walk.specs.Tree.{Key, under, Item, View, bad, branch, leaf, keys, At, first_in, inside, Verdict, pass, fault, if_passed, first_out, unless_twice, unless_out, next, walk_all, walk_page, walk, Answer, refused, child_for, look_page, lookup, Below, here, down, Walker}
 use Rattle.walk.proofs.KeyLaws.{under_some}
+use Rattle.field.specs.declared.refusal.Refusal.TheVariants.{PageNumber}
 
 -- the child for a key is a child, where there is one
 pub child_at_lem : (cs : List (Item ℕ)) (key : Key) → (cs ≡ []) ⊎ ((i : ℕ) × (c : Item ℕ) × At cs i c × (child_for cs key ≡ c.value))
@@ -59,7 +60,7 @@ module _ {P : Type 0} (N : ℕ) (view view' : ℕ → Bool → View P) where
   unfolding lookup look_page child_for
   lookup_frame zero t p key h = refl
   lookup_frame (suc d) t p key h =
-      ap (λ (a : Answer P). cond (inside N p) a (refused 2 p 0 0))
+      ap (λ (a : Answer P). cond (inside N p) a (refused PageNumber p 0 0))
       (ap (λ (v : View P). look_page (λ q. lookup N view' d false q key) v p key) (h 1 p t here) ∙ go (view p t) refl (λ q g. lookup_frame d false q key g))
     where
       zeroth : (k : ℕ) → lookup N view' k false 0 key ≡ lookup N view k false 0 key
@@ -89,7 +90,7 @@ module _ {P : Type 0} (N : ℕ) (block block' : ℕ → List ℕ) (view view' : 
   walk_frame zero t p low high vs h = refl
   walk_frame (suc d) t p low high vs h =
       rw (h 1 p t here).1
-      (ap (λ (v : Verdict). cond (inside N p) (unless_twice (first_in (block p) vs) v) (fault 2 p 0 0))
+      (ap (λ (v : Verdict). cond (inside N p) (unless_twice (first_in (block p) vs) v) (fault PageNumber p 0 0))
       (ap (λ (v : View P). walk_page (walk N block' view' d false) v p low high (block p ++ vs)) (h 1 p t here).0
       ∙ go (view p t) refl (λ q a b c g. walk_frame d false q a b c g)))
     where

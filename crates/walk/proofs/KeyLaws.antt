@@ -5,17 +5,17 @@ use mathlib.Core.Path.{◌≡◌, refl, ap, ◌∙◌}
 use mathlib.Core.List.{List, [], ◌∷◌}
 use mathlib.Core.Bool.{Bool, true, false, not, ◌&&◌}
 use mathlib.Core.Option.{Option, none, some}
-use Rattle.field.specs.declared.order.Order.{Order}
-use Rattle.field.specs.declared.order.Order.TheVariants.{Lower, Equal, Higher}
+use Rattle.std.specs.declared.cmp.Ordering.{Ordering}
+use Rattle.std.specs.declared.cmp.Ordering.TheVariants.{Less, Equal, Greater}
 use Rattle.field.specs.Order.{order_of}
-use Rattle.field.proofs.OrderLaws.{is_lower_lem, is_equal_lem, order_refl, order_equal, order_flip, flip, lower_trans}
+use Rattle.field.proofs.OrderLaws.{is_lt_lem, is_eq_lem, order_refl, order_equal, order_flip, flip, lower_trans}
 use Rattle.walk.specs.Tree.{Key, lower, same, under, in_range, Item, next, keys, Rising}
 
-pub lower_order : (a b : Key) → lower a b ≡ true → order_of a b ≡ Lower
+pub lower_order : (a b : Key) → lower a b ≡ true → order_of a b ≡ Less
 unfolding lower
-lower_order a b = is_lower_lem (order_of a b)
+lower_order a b = is_lt_lem (order_of a b)
 
-pub order_lower : (a b : Key) → order_of a b ≡ Lower → lower a b ≡ true
+pub order_lower : (a b : Key) → order_of a b ≡ Less → lower a b ≡ true
 unfolding lower
 order_lower a b e = rw e
 
@@ -31,10 +31,10 @@ pub data Stand (a b : Key) : Type 0 where
 pub stand : (a b : Key) → Stand a b
 stand a b = go (order_of a b) refl
   where
-    go : (o : Order) → order_of a b ≡ o → Stand a b
-    go Lower e = less (order_lower a b e)
+    go : (o : Ordering) → order_of a b ≡ o → Stand a b
+    go Less e = less (order_lower a b e)
     go Equal e = alike (order_equal a b e)
-    go Higher e = over (order_lower b a (order_flip a b ∙ ap flip e))
+    go Greater e = over (order_lower b a (order_flip a b ∙ ap flip e))
 
 pub lower_not : (a : Key) → lower a a ≡ false
 unfolding lower
@@ -80,7 +80,7 @@ same_self a b e = rw (e, order_refl b)
 
 pub same_eq : (a b : Key) → same a b ≡ true → a ≡ b
 unfolding same
-same_eq a b e = order_equal a b (is_equal_lem (order_of a b) e)
+same_eq a b e = order_equal a b (is_eq_lem (order_of a b) e)
 
 pub not_same : (a b : Key) → (a ≡ b → ⊥) → same a b ≡ false
 not_same a b f = go (same a b) refl

@@ -17,6 +17,7 @@ use Rattle.walk.proofs.Count.{no_longer, sorted_unique}
 use Rattle.walk.proofs.Depth.{Landed, landed}
 use Rattle.walk.proofs.Frame.{lookup_frame, walk_frame}
 use Rattle.walk.proofs.Reach.{entered, listed, visited, only, distinct}
+use Rattle.field.specs.declared.refusal.Refusal.{Refusal}
 
 module _ {P : Type 0}
     (N : ℕ)
@@ -53,7 +54,7 @@ module _ {P : Type 0}
     lands key = landed N block view checked key how.1
 
     -- T1
-    pub never_refused_lem : (key : Key) (r p e c : ℕ) → lookup N view 16 true root key ≡ refused r p e c → ⊥
+    pub never_refused_lem : (key : Key) (r : Refusal) (p e c : ℕ) → lookup N view 16 true root key ≡ refused r p e c → ⊥
     never_refused_lem key r p e c = go (lookup N view 16 true root key) (answer key)
       where
         go : (a : Answer P) → Sought listing.all key a → a ≡ refused r p e c → ⊥

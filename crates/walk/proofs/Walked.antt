@@ -10,6 +10,7 @@ use lib.ListN.{length, length-append}
 use Rattle.walk.specs.Tree.{Key, Item, View, bad, branch, leaf, keys, first_in, inside, Verdict, pass, fault, if_passed, Stray, first_out, unless_twice, unless_out, next, walk_all, walk_page, walk}
 use Rattle.walk.specs.Listing.{Slot}
 use Rattle.walk.proofs.Slots.{slots, length_slots}
+use Rattle.field.specs.declared.refusal.Refusal.TheVariants.{PageNumber}
 
 module _ {P : Type 0} (N : ℕ) (block : ℕ → List ℕ) (view : ℕ → Bool → View P) where
   mutual
@@ -113,7 +114,7 @@ module _ {P : Type 0} (N : ℕ) (block : ℕ → List ℕ) (view : ℕ → Bool 
           → inside N p ≡ b
           → (u : Option ℕ)
           → first_in (block p) vs ≡ u
-          → cond b (unless_twice u (walk_page (walk N block view d false) (view p t) p low high (block p ++ vs))) (fault 2 p 0 0) ≡ pass n ws
+          → cond b (unless_twice u (walk_page (walk N block view d false) (view p t) p low high (block p ++ vs))) (fault PageNumber p 0 0) ≡ pass n ws
           → Passed d false
           → (L : List (Slot P)) × Walked (suc d) t p low high vs L ws × (n ≡ length L)
       go true i none m f ih = walked_page d t ih p low high vs n ws i m (view p t) refl f

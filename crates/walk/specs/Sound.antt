@@ -2,6 +2,7 @@
 use Rattle.std.specs.Prelude.{ℕ, zero, suc, ◌≤◌, ◌<◌, ◌≡◌, List, [], ◌∷◌, Bool, true, false, length}
 use Rattle.std.proofs.Math.Option.{Option}
 use Rattle.walk.specs.Tree.{Key, in_range, Item, View, bad, branch, leaf, keys, next, memb, Every}
+use Rattle.field.specs.declared.refusal.Refusal.{Refusal}
 
 -- c is child i of a branch, and its range ends so
 abbrev pub ChildAt : List (Item ℕ) → Option Key → ℕ → Item ℕ → Option Key → Type 0
@@ -28,7 +29,7 @@ module _ {P : Type 0} (view : ℕ → Bool → View P) where
     pub depth : length is < d
     pub from2 : 2 ≤ q
     pub below_n : q < N
-    pub seen : (r e c : ℕ) → view q s ≡ bad r e c → ⊥
+    pub seen : (r : Refusal) (e c : ℕ) → view q s ≡ bad r e c → ⊥
     pub ranged : Every (λ k. in_range low high k ≡ true) (keys_on (view q s))
 
   -- page p, with its range, is the root of a sound tree of at most d levels; `block` tells the pages of a page's block

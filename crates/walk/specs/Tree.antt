@@ -2,17 +2,20 @@
 -- What stands on a page is given by a `view`, a parameter: this file knows nothing of bytes.
 use Rattle.std.specs.Prelude.{ℕ, zero, suc, ◌+◌, ◌≡◌, List, [], ◌∷◌, ◌++◌, Bool, true, false, not, ◌&&◌, ◌||◌, cond, leb, ltb, eqb, length}
 use Rattle.std.proofs.Math.Option.{Option, none, some}
-use Rattle.field.specs.Order.{order_of, common_of, is_lower, is_equal}
+use Rattle.field.specs.declared.refusal.Refusal.{Refusal}
+use Rattle.field.specs.declared.refusal.Refusal.TheVariants.{PageNumber, KeyRange, UsedTwice, TooDeep}
+use Rattle.field.specs.Order.{order_of, common_of}
+use Rattle.std.specs.Ordering.{is_lt, is_eq}
 
 -- ---- keys
 abbrev pub Key : Type 0
 Key = List ℕ
 
 unfoldable pub lower : Key → Key → Bool
-lower a b = is_lower (order_of a b)
+lower a b = is_lt (order_of a b)
 
 unfoldable pub same : Key → Key → Bool
-same a b = is_equal (order_of a b)
+same a b = is_eq (order_of a b)
 
 -- a key is below a range's high end, which may be missing
 abbrev pub under : Key → Option Key → Bool
@@ -37,9 +40,9 @@ pub record Item (A : Type 0) : Type 0 where
   pub key : Key
   pub value : A
 
--- a page that is refused, with the number, the element and the length of the common beginning; a branch's separators, each with the page of its child; a leaf's entries
+-- a page that is refused, with the cause, the element and the length of the common beginning; a branch's separators, each with the page of its child; a leaf's entries
 pub data View (P : Type 0) : Type 0 where
-  bad : ℕ → ℕ → ℕ → View P
+  bad : Refusal → ℕ → ℕ → View P
   branch : List (Item ℕ) → View P
   leaf : List (Item P) → View P
 
@@ -84,10 +87,10 @@ abbrev pub inside : ℕ → ℕ → Bool
 inside N p = leb 2 p && ltb p N
 
 -- ---- the judge
--- how many entries and the pages of the blocks visited, or a breach's number, page, element and length of the common beginning
+-- how many entries and the pages of the blocks visited, or a breach's cause, page, element and length of the common beginning
 pub data Verdict : Type 0 where
   pass : ℕ → List ℕ → Verdict
-  fault : ℕ → ℕ → ℕ → ℕ → Verdict
+  fault : Refusal → ℕ → ℕ → ℕ → Verdict
 
 abbrev pub if_passed : Verdict → (ℕ → List ℕ → Verdict) → Verdict
 if_passed (pass n vs) k = k n vs
@@ -106,15 +109,15 @@ unfoldable pub first_out : Key → Option Key → List Key → ℕ → Option St
 first_out low high [] i = none
 first_out low high (k ∷ ks) i = cond (in_range low high k) (first_out low high ks (suc i)) (some (stray i (common_crossed low high k)))
 
--- rule 3, whose number is 8 and which names the lowest page that was visited before, and then the verdict
+-- rule 3, which names the lowest page that was visited before, and then the verdict
 abbrev pub unless_twice : Option ℕ → Verdict → Verdict
 unless_twice none v = v
-unless_twice (some page) v = fault 8 page 0 0
+unless_twice (some page) v = fault UsedTwice page 0 0
 
--- rule 8, whose number is 7, and then the verdict
+-- rule 8, and then the verdict
 abbrev pub unless_out : Option Stray → ℕ → Verdict → Verdict
 unless_out none page v = v
-unless_out (some x) page v = fault 7 page x.index x.common
+unless_out (some x) page v = fault KeyRange page x.index x.common
 
 -- a range's high end: the next child's separator, and for the last child the branch's own high end
 abbrev pub next : List (Item ℕ) → Option Key → Option Key
@@ -137,7 +140,7 @@ walk_page go (leaf es) page low high vs = unless_out (first_out low high (keys e
 
 -- ---- the search
 pub data Answer (P : Type 0) : Type 0 where
-  refused : ℕ → ℕ → ℕ → ℕ → Answer P
+  refused : Refusal → ℕ → ℕ → ℕ → Answer P
   found : Item P → ℕ → ℕ → Answer P
   absent : Answer P
 
@@ -157,20 +160,20 @@ look_page go (branch cs) page key = go (child_for cs key)
 look_page go (leaf es) page key = seek_from es key page 0
 
 -- ---- the tree, by the number of pages, the pages of each one's block, rising, and the view of each, as the root's level or below
--- 01: rules 1 to 8 in this order; 02's order 3: rule 3 comes directly after rule 4 and marks every page of the block, and if any is marked already, 8, naming
+-- 01: rules 1 to 8 in this order; 02's order 3: rule 3 comes directly after rule 4 and marks every page of the block, and if any is marked already, `UsedTwice`, naming
 -- the lowest. Rules 4 to 7 are the view's; a page that rule 4 refuses has no block, so rule 3 finds nothing there and the view refuses it
 module _ {P : Type 0} (N : ℕ) (block : ℕ → List ℕ) (view : ℕ → Bool → View P) where
   unfoldable pub walk : ℕ → Bool → ℕ → Key → Option Key → List ℕ → Verdict
-  walk zero top page low high vs = fault 9 page 0 0
+  walk zero top page low high vs = fault TooDeep page 0 0
   walk (suc d) top page low high vs =
       cond (inside N page)
       (unless_twice (first_in (block page) vs) (walk_page (walk d false) (view page top) page low high (block page ++ vs)))
-      (fault 2 page 0 0)
+      (fault PageNumber page 0 0)
 
 module _ {P : Type 0} (N : ℕ) (view : ℕ → Bool → View P) where
   unfoldable pub lookup : ℕ → Bool → ℕ → Key → Answer P
-  lookup zero top page key = refused 9 page 0 0
-  lookup (suc d) top page key = cond (inside N page) (look_page (λ p. lookup d false p key) (view page top) page key) (refused 2 page 0 0)
+  lookup zero top page key = refused TooDeep page 0 0
+  lookup (suc d) top page key = cond (inside N page) (look_page (λ p. lookup d false p key) (view page top) page key) (refused PageNumber page 0 0)
 
 module _ {P : Type 0} (view : ℕ → Bool → View P) where
   -- page q, viewed as the root or not, is on this level below page p, which is on level 1

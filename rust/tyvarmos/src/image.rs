@@ -90,7 +90,7 @@ impl<'a> Image<'a> {
     }
 
     /// The image with the knowledge that it is sound. Every page of this one tree is read, and the freelist page; the
-    /// trees of its buckets are not. On the deepest trees it took 144,184 bytes of stack.
+    /// trees of its buckets are not. On the deepest trees it took less than 20,000 bytes of stack.
     ///
     /// # Errors
     ///

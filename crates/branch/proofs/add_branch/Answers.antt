@@ -1,5 +1,6 @@
--- `branch::add_branch` meets its contract: 14 where the key is present, and else the entry put in order. Assumes nothing.
-use mathlib.Core.Path.{sym, ◌∙◌}
+-- `branch::add_branch` meets its contract: a conflict where the key is present, and else the entry put in order. Assumes nothing.
+use mathlib.Core.Path.{sym, ap, ◌∙◌}
+use Rattle.std.specs.Prelude.{Err}
 use mathlib.Core.Bool.{true, false}
 use mathlib.Core.List.{[]}
 use Rattle.page.specs.Layout.{id_of}
@@ -24,8 +25,8 @@ returns-then-place c =
     let b = a.b.now in
     let p = c.find-place.result in
     let there = found_at false b a.key.now p.at (sym c.find-place.ensures ∙ place_is p true c.if-place.true) in
-    refused_edits false (id_of b) a.p a.out.now 14 0 0
-    (add_present a.p a.out.now b (entry_with a.child a.key.now []) (present_at b a.key.now p.at there.0 there.1))
+    refused_edits false (id_of b) a.p a.out.now _
+    (add_present a.p a.out.now b (entry_with a.child a.key.now []) (present_at b a.key.now p.at there.0 there.1) ∙ ap Err (sym c.from.ensures))
 
 pub returns : goal.returns
 returns c =

@@ -28,5 +28,5 @@ pub returns : goal.returns
 returns c =
     let n = c.count-n in
     let a = c.args in
-    let e = plan_replace false a.b.now a.i a.child n.result a.key.now [] n.ensures (omega arith) in
+    let e = plan_replace false a.b.now a.i n.result a.key.now [] n.ensures a.child (omega arith) in
     same_node false a.p a.out.now e c.id-page.ensures c.write_planned.ensures

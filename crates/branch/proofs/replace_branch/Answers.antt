@@ -1,8 +1,9 @@
--- `branch::replace_branch` meets its contract: 14 where the original key is absent or a neighbour breaks the order, and else the replacement. Assumes nothing.
+-- `branch::replace_branch` meets its contract: a conflict where the original key is absent or a neighbour breaks the order, and else the replacement. Assumes nothing.
 use borrow.Author.Tests.{not-true, not-false}
 use Prim.Native.Nat.{◌<◌}
-use mathlib.Core.Path.{◌≡◌, sym, ◌∙◌}
-use mathlib.Core.Bool.{true, false}
+use mathlib.Core.Path.{◌≡◌, sym, ap, ◌∙◌}
+use mathlib.Core.Bool.{true, false, ◌||◌}
+use Rattle.std.specs.Prelude.{Err}
 use mathlib.Core.List.{[]}
 use native.Mathlib.Omega.{arith}
 use Rattle.page.specs.Layout.{id_of, count_of, key_of}
@@ -15,7 +16,7 @@ use Rattle.node.proofs.InsertLaws.{place_is}
 use Rattle.node.proofs.EditLaws.{same_edits, refused_edits}
 use Rattle.branch.proofs.BranchLaws.{absent_all, replace_absent, replace_breaks, replace_goes}
 use Rattle.branch.proofs.replace_branch.Goals as goal
-use Rattle.branch.proofs.replace_branch.Goals.{Else-not-place, Start}
+use Rattle.branch.proofs.replace_branch.Goals.{Else-not-place, Start, then-not_above-via-then-not_above, then-not_above-via-else-not_above+then-not_below}
 
 sound : (s : Start) → SoundBlock false true s.args.b.now
 sound s = lent_as s.args.p s.args.b.now false s.requires.0 s.requires.1
@@ -42,20 +43,11 @@ returns-then-not-place c =
     let b = a.b.now in
     let p = c.find-place.result in
     let none = missing_none false true b (sound (goal.at.returns-then-not-place c).Start) a.original.now p.at (sym c.find-place.ensures ∙ place_is p false (not-true _ c.if-not-place.true)) in
-    refused_edits false (id_of b) a.p a.out.now 14 0 0
-    (replace_absent a.p a.out.now b (entry_with a.child a.key.now []) a.original.now (absent_all b a.original.now none))
+    refused_edits false (id_of b) a.p a.out.now _
+    (replace_absent a.p a.out.now b (entry_with a.child a.key.now []) a.original.now (absent_all b a.original.now none) ∙ ap Err (sym c.from.ensures))
 
 pub not_above-requires : goal.not_above-requires
 not_above-requires c = ((there c).0, sound (goal.at.not_above-requires c).Start)
-
-pub returns-then-not_above : goal.returns-then-not_above
-returns-then-not_above c =
-    let a = c.args in
-    let b = a.b.now in
-    let h = there (goal.at.returns-then-not_above c).Else-not-place in
-    let broken : not_above b c.find-place.result.at a.key.now ≡ true = sym c.not_above.ensures ∙ c.if-not_above.true in
-    refused_edits false (id_of b) a.p a.out.now 14 0 0
-    (replace_breaks a.p a.out.now b (entry_with a.child a.key.now []) a.original.now (sound (goal.at.returns-then-not_above c).Start) _ h.0 h.1 (rw broken))
 
 pub not_below-requires : goal.not_below-requires
 not_below-requires c =
@@ -63,15 +55,19 @@ not_below-requires c =
     let h = (there (goal.at.not_below-requires c).Else-not-place).0 in
     (n, omega arith, sound (goal.at.not_below-requires c).Start)
 
-pub returns-then-not_below : goal.returns-then-not_below
-returns-then-not_below c =
+pub returns-then-not_above : goal.returns-then-not_above
+returns-then-not_above c =
     let a = c.args in
     let b = a.b.now in
-    let h = there (goal.at.returns-then-not_below c).Else-not-place in
-    let kept : not_above b c.find-place.result.at a.key.now ≡ false = sym c.not_above.ensures ∙ c.if-not_above.false in
-    let broken : not_below b c.find-place.result.at a.key.now ≡ true = sym c.not_below.ensures ∙ c.if-not_below.true in
-    refused_edits false (id_of b) a.p a.out.now 14 0 0
-    (replace_breaks a.p a.out.now b (entry_with a.child a.key.now []) a.original.now (sound (goal.at.returns-then-not_below c).Start) _ h.0 h.1 (rw (kept, broken)))
+    let h = there (goal.at.returns-then-not_above c).Else-not-place in
+    let i = c.find-place.result.at in
+    let broken : (not_above b i a.key.now || not_below b i a.key.now) ≡ true = elim c.then-not_above.branch [
+      | then-not_above-via-then-not_above w ↦ rw (sym c.not_above.ensures ∙ w.if-not_above.true)
+      | then-not_above-via-else-not_above+then-not_below w ↦ rw (sym c.not_above.ensures ∙ w.if-not_above.false, sym w.not_below.ensures ∙ w.if-not_below.true)
+    ] in
+    refused_edits false (id_of b) a.p a.out.now _
+    (replace_breaks a.p a.out.now b (entry_with a.child a.key.now []) a.original.now (sound (goal.at.returns-then-not_above c).Start) _ h.0 h.1 broken
+    ∙ ap Err (sym c.from-then-not_above.ensures))
 
 pub replace-requires : goal.replace-requires
 replace-requires c =

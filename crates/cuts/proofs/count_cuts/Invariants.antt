@@ -6,9 +6,9 @@ use lib.ListN.{length}
 use Rattle.cuts.specs.Run.{cuts_after}
 use Rattle.cuts.proofs.count_cuts.Given as goal
 
-abbrev pub invariant-loop-leaf : goal.invariant-loop-leaf
-invariant-loop-leaf l =
+abbrev pub invariant-loop-next : goal.invariant-loop-next
+invariant-loop-next l =
     (l.c ≤ l.end) × (l.made ≤ l.c) × (l.made + length (cuts_after l.leaf l.t l.b l.end l.c) ≡ length (cuts_after l.leaf l.t l.b l.end 0))
 
-abbrev pub decreases-loop-leaf : goal.decreases-loop-leaf
-decreases-loop-leaf l = l.end - l.c
+abbrev pub decreases-loop-next : goal.decreases-loop-next
+decreases-loop-next l = l.end - l.c

@@ -1,26 +1,16 @@
-use mathlib.Core.Path.{sym, refl, ◌∙◌}
-use native.Mathlib.Omega.{arith}
-use Rattle.newest.proofs.SizeLaws.{size_here, size_later, size_none}
+-- `newest::lowest_size` meets its contract: it finds among the allowed sizes, the lowest first. Assumes nothing.
+use Rattle.std.proofs.Common.{ℕ, ◌+◌, ◌*◌, sym, refl, ◌∙◌, rules, tests}
+use Rattle.std.proofs.lemmas.Iterator.{YieldsList-from_range, YieldsList-from_map}
+use Rattle.std.proofs.lemmas.Iterator.Search.{find_from_yields_List}
+use Rattle.std.proofs.lemmas.Iterator.Adapters.{option_map_id}
+use Rattle.newest.specs.Newest.{names_itself}
+use Rattle.newest.proofs.SizeLaws.{sizes_in_turn}
 use Rattle.newest.proofs.lowest_size.Goals as goal
-
-pub loop-left-init : goal.loop-left-init
-loop-left-init c = (refl, refl)
-
-pub returns-then-names_itself : goal.returns-then-names_itself
-returns-then-names_itself c =
-    let l = c.loop-left in
-    let a = c.args in
-    let n = c.loop-left-test.true in
-    sym (size_here a.image.now l.left l.p n (sym c.names_itself.ensures ∙ c.if-names_itself.true)) ∙ l.invariant.0
-
-pub loop-left-preserved : goal.loop-left-preserved
-loop-left-preserved c =
-    let l = c.loop-left in
-    let a = c.args in
-    let n = c.loop-left-test.true in
-    (sym (size_later a.image.now l.left l.p n (sym c.names_itself.ensures ∙ c.if-names_itself.false)) ∙ l.invariant.0, omega arith)
 
 pub returns : goal.returns
 returns c =
-    let l = c.loop-left in
-    sym (size_none c.args.image.now l.left l.p c.loop-left-test.false) ∙ l.invariant.0
+    let image = c.args.image.now in
+    let found = find_from_yields_List (names_itself image) _ _ c.find.result c.find.ensures.ran
+    (YieldsList-from_map _ (λ (k : ℕ). 1024 + 8 * k) (YieldsList-from_range 0 8065 8065 c.map.ensures.source refl) c.map.ensures.closure (λ x r q k. search rules))
+    (λ x b q k. search (rules, tests)) in
+    sym (option_map_id c.find.result) ∙ found ∙ sizes_in_turn image 8065 0

@@ -1,74 +1,73 @@
-use mathlib.Core.Path.{◌≡◌, refl, sym, ◌∙◌}
+use mathlib.Core.Path.{◌≡◌, sym, ap, ◌∙◌}
 use mathlib.Core.Bool.{true}
-use Prim.Native.Nat.{◌-◌}
+use Prim.Native.Nat.{◌+◌, ◌-◌}
 use native.Mathlib.Omega.{arith}
 use lib.Dec.{eqb}
+use Rattle.std.specs.Prelude.{Ok, Err}
 use Rattle.walk.specs.Tree.{inside}
-use Rattle.lookup.specs.declared.descent.Step.{Step}
-use Rattle.lookup.specs.Descent.{onward, descend}
-use Rattle.quick.specs.Quick.{page_says, quick_of}
 use Rattle.view.proofs.GeometryLaws.{inside_parts, geometry_sizes}
+use Rattle.lookup.specs.Descent.{Stepped, onward, descend}
 use Rattle.lookup.proofs.LookupLaws.{deep, outside, turn}
+use Rattle.quick.specs.Quick.{page_says, quick_of}
 use Rattle.quick.proofs.PageLaws.{quick_geometry, quick_descends}
 use Rattle.quick.proofs.quick.Goals as goal
-use Rattle.quick.proofs.quick.Goals.{After-page_says, At-loop-left, Else-not-inside}
+use Rattle.quick.proofs.quick.Goals.{After-page_says, At-loop-depth, Else-not-inside}
 
 pub returns-then-geometry_bad : goal.returns-then-geometry_bad
 returns-then-geometry_bad c =
     let a = c.args in
-    c.refused.ensures
+    ap Err c.fault.ensures
     ∙ sym (quick_geometry a.image.now a.p a.n a.root a.key.now (sym c.geometry_bad.ensures ∙ c.if-geometry_bad.true))
 
-pub loop-left-init : goal.loop-left-init
-loop-left-init c = (omega arith, refl)
-
 -- the answer, from the loop's start on
-whole : (c : At-loop-left)
+whole : (c : At-loop-depth)
     → let a = c.args in
-    quick_of a.image.now a.p a.n a.root a.key.now ≡ descend a.n (page_says a.image.now a.p a.n a.key.now) c.loop-left.left (eqb c.loop-left.left 16) c.loop-left.q
+    let l = c.loop-depth in
+    quick_of a.image.now a.p a.n a.root a.key.now ≡ descend a.n (page_says a.image.now a.p a.n a.key.now) (16 - l.depth) (eqb l.depth 0) l.q
 whole c =
     let a = c.args in
-    quick_descends a.image.now a.p a.n a.root a.key.now (sym c.geometry_bad.ensures ∙ c.if-geometry_bad.false) ∙ c.loop-left.invariant.1
+    quick_descends a.image.now a.p a.n a.root a.key.now (sym c.geometry_bad.ensures ∙ c.if-geometry_bad.false) ∙ c.loop-depth.invariant
 
 pub returns-then-not-inside : goal.returns-then-not-inside
 returns-then-not-inside c =
     let a = c.args in
-    c.refused-then-not-inside.ensures
-    ∙ sym (whole (goal.at.returns-then-not-inside c).At-loop-left ∙ outside a.n (page_says a.image.now a.p a.n a.key.now) c.loop-left.q (eqb c.loop-left.left 16) c.loop-left.left (omega arith) (sym c.inside.ensures ∙ c.if-not-inside.true))
+    let l = c.loop-depth in
+    ap Err c.fault-then-not-inside.ensures
+    ∙ sym (whole (goal.at.returns-then-not-inside c).At-loop-depth ∙ outside a.n (page_says a.image.now a.p a.n a.key.now) l.q (eqb l.depth 0) (16 - l.depth) (omega arith) (sym c.inside.ensures ∙ c.if-not-inside.true))
 
-within : (c : Else-not-inside) → inside c.args.n c.loop-left.q ≡ true
+within : (c : Else-not-inside) → inside c.args.n c.loop-depth.q ≡ true
 within c = sym c.inside.ensures ∙ c.if-not-inside.false
 
 pub page_says-requires : goal.page_says-requires
 page_says-requires c =
     let a = c.args in
-    (geometry_sizes a.image.now a.p a.n (sym c.geometry_bad.ensures ∙ c.if-geometry_bad.false), (inside_parts a.n c.loop-left.q (within c)).1)
+    (geometry_sizes a.image.now a.p a.n (sym c.geometry_bad.ensures ∙ c.if-geometry_bad.false), (inside_parts a.n c.loop-depth.q (within c)).1)
 
 -- by what the page said
-said : (c : After-page_says) (s : Step) → c.page_says.result ≡ s
+said : (c : After-page_says) (s : Stepped) → c.page_says.result ≡ s
     → let a = c.args in
+    let l = c.loop-depth in
     let d = descend a.n (page_says a.image.now a.p a.n a.key.now) in
-    d c.loop-left.left (eqb c.loop-left.left 16) c.loop-left.q ≡ onward (d (c.loop-left.left - 1) (eqb (c.loop-left.left - 1) 16)) c.loop-left.q s
+    d (16 - l.depth) (eqb l.depth 0) l.q ≡ onward (d (16 - (l.depth + 1)) (eqb (l.depth + 1) 0)) l.q s
 said c s e =
     let a = c.args in
-    turn a.n (page_says a.image.now a.p a.n a.key.now) c.loop-left.q (eqb c.loop-left.left 16) c.loop-left.left (omega arith) c.loop-left.invariant.0 (within (goal.at.After-page_says c).Else-not-inside) s (sym c.page_says.ensures ∙ e)
+    turn a.n (page_says a.image.now a.p a.n a.key.now) c.loop-depth.q (eqb c.loop-depth.depth 0) c.loop-depth.depth (omega arith) (within (goal.at.After-page_says c).Else-not-inside) s (sym c.page_says.ensures ∙ e)
 
-pub loop-left-preserved : goal.loop-left-preserved
-loop-left-preserved c =
-    let h = c.loop-left.invariant.0 in
-    (omega arith, c.loop-left.invariant.1 ∙ said (goal.at.loop-left-preserved c).After-page_says _ c.in-Down.is)
+pub loop-depth-preserved : goal.loop-depth-preserved
+loop-depth-preserved c = c.loop-depth.invariant ∙ said (goal.at.loop-depth-preserved c).After-page_says _ (c.in-Ok-Down.is ∙ ap Ok c.in-Ok-Down.field-0-is)
 
-pub returns-in-Found : goal.returns-in-Found
-returns-in-Found c = sym (whole (goal.at.returns-in-Found c).At-loop-left ∙ said (goal.at.returns-in-Found c).After-page_says _ c.in-Found.is)
+pub returns-in-Ok-Found : goal.returns-in-Ok-Found
+returns-in-Ok-Found c = sym (whole (goal.at.returns-in-Ok-Found c).At-loop-depth ∙ said (goal.at.returns-in-Ok-Found c).After-page_says _ (c.in-Ok-Found.is ∙ ap Ok c.in-Ok-Found.field-0-is))
 
-pub returns-in-Absent : goal.returns-in-Absent
-returns-in-Absent c = sym (whole (goal.at.returns-in-Absent c).At-loop-left ∙ said (goal.at.returns-in-Absent c).After-page_says _ c.in-Absent.is)
+pub returns-in-Ok-Absent : goal.returns-in-Ok-Absent
+returns-in-Ok-Absent c = sym (whole (goal.at.returns-in-Ok-Absent c).At-loop-depth ∙ said (goal.at.returns-in-Ok-Absent c).After-page_says _ (c.in-Ok-Absent.is ∙ ap Ok c.in-Ok-Absent.field-0-is))
 
-pub returns-in-Breach : goal.returns-in-Breach
-returns-in-Breach c =
-    c.refused-in-Breach.ensures ∙ sym (whole (goal.at.returns-in-Breach c).At-loop-left ∙ said (goal.at.returns-in-Breach c).After-page_says _ c.in-Breach.is)
+pub returns-in-Err : goal.returns-in-Err
+returns-in-Err c =
+    ap Err c.on_page.ensures ∙ sym (whole (goal.at.returns-in-Err c).At-loop-depth ∙ said (goal.at.returns-in-Err c).After-page_says _ c.in-Err.is)
 
 pub returns : goal.returns
 returns c =
     let a = c.args in
-    c.refused-2.ensures ∙ sym (whole (goal.at.returns c).At-loop-left ∙ deep a.n (page_says a.image.now a.p a.n a.key.now) c.loop-left.q (eqb c.loop-left.left 16) c.loop-left.left (omega arith))
+    let l = c.loop-depth in
+    ap Err c.fault-2.ensures ∙ sym (whole (goal.at.returns c).At-loop-depth ∙ deep a.n (page_says a.image.now a.p a.n a.key.now) l.q (eqb l.depth 0) (16 - l.depth) (omega arith))

@@ -2,12 +2,12 @@
 use mathlib.Core.Path.{sym, ◌∙◌}
 use Rattle.shard.proofs.tyvarmos_judge.Goals as goal
 
-pub returns-in-Sound : goal.returns-in-Sound
-returns-in-Sound c =
-    let e = sym c.judge.ensures ∙ c.in-Sound.is in
+pub returns-in-Ok : goal.returns-in-Ok
+returns-in-Ok c =
+    let e = sym c.judge.ensures ∙ c.in-Ok.is in
     rw e c.give.ensures
 
-pub returns-in-Refused : goal.returns-in-Refused
-returns-in-Refused c =
-    let e = sym c.judge.ensures ∙ c.in-Refused.is in
-    rw e c.give-in-Refused.ensures
+pub returns-in-Err : goal.returns-in-Err
+returns-in-Err c =
+    let e = sym c.judge.ensures ∙ c.in-Err.is in
+    rw (e, sym c.from.ensures) c.give-in-Err.ensures

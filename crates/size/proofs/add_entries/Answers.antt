@@ -1,14 +1,8 @@
 use Prim.Native.Nat.{◌+◌}
-use mathlib.Core.Path.{refl, ◌∙◌}
+use mathlib.Core.Path.{◌∙◌}
 use native.Mathlib.Omega.{arith}
 use Rattle.size.proofs.SizeLaws.{entries_next, entries_none, counted_most, counted_step, counted_end}
 use Rattle.size.proofs.add_entries.Goals as goal
-
-pub loop-i-init : goal.loop-i-init
-loop-i-init c = (c.requires.0, refl)
-
-pub entry_size-requires : goal.entry_size-requires
-entry_size-requires c = let p = c.requires in (omega arith, p.2)
 
 pub loop-i-preserved : goal.loop-i-preserved
 loop-i-preserved c =

@@ -1,16 +1,7 @@
 -- `size::entry_size` meets its contract: an entry of a sound block lies within it, so that its size does not wrap. Assumes nothing.
 use native.Mathlib.Omega.{arith}
-use Rattle.pack.proofs.RangeLaws.{entry_room}
 use Rattle.size.proofs.SizeLaws.{entry_within}
 use Rattle.size.proofs.entry_size.Goals as goal
-
-pub key-k-requires : goal.key-k-requires
-key-k-requires c =
-    let r = entry_room c.args.leaf c.args.b.now c.requires.1 c.args.i c.requires.0 in
-    (r.0, omega arith)
-
-pub value-v-requires : goal.value-v-requires
-value-v-requires c = entry_room c.args.leaf c.args.b.now c.requires.1 c.args.i c.requires.0
 
 pub returns : goal.returns
 returns c = rw (c.element_size.ensures, c.key-k.ensures, c.value-v.ensures)

@@ -1,5 +1,5 @@
--- `write::all_placed` meets its contract. The loop's invariant: the pass over the rest of the list and the pieces from `c` on, with these marks,
--- finds whether all are placed. The measure is what is left of the list. Assumes nothing.
+-- `split::all_placed` meets its contract. The loop's invariant: the pass over the rest of the list and the pieces from `c` on, with these marks,
+-- finds whether all are placed. Assumes nothing.
 use mathlib.Core.Path.{◌≡◌}
 use Prim.Native.Nat.{◌-◌, ◌≤◌}
 use lib.ListN.{length, drop}
@@ -9,12 +9,9 @@ use Rattle.split.specs.Write.{placed, capped_spans}
 use Rattle.split.proofs.PlacedLaws.{placed_in}
 use Rattle.split.proofs.all_placed.Given as goal
 
-abbrev pub invariant-loop-at : goal.invariant-loop-at
-invariant-loop-at l =
+abbrev pub invariant-loop-page : goal.invariant-loop-page
+invariant-loop-page l =
     (l.c ≤ count_of l.b)
     × (length l.marks ≡ 512)
-    × (placed_in l.n l.marks (drop l.at l.pages) (capped_spans l.leaf l.p (pieces_after l.leaf l.t l.b l.end (length l.pages - l.at) l.c))
+    × (placed_in l.n l.marks (drop l.page-index l.pages) (capped_spans l.leaf l.p (pieces_after l.leaf l.t l.b l.end (length l.pages - l.page-index) l.c))
     ≡ placed l.n l.pages (capped_spans l.leaf l.p (pieces_after l.leaf l.t l.b l.end (length l.pages) 0)))
-
-abbrev pub decreases-loop-at : goal.decreases-loop-at
-decreases-loop-at l = length l.pages - l.at

@@ -9,7 +9,7 @@ loop-k-preserved c =
     let a = c.args in
     let n = size_next a.leaf a.b.now c.loop-k.k a.j (omega arith) in
     let m = size_least a.leaf (range a.leaf a.b.now (c.loop-k.k + 1) a.j) in
-    let e = c.entry_size-size.ensures in
+    let e = c.entry_size.ensures in
     let s = c.add_capped-sum.ensures in
     (omega arith, omega arith)
 

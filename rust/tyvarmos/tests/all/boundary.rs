@@ -66,6 +66,7 @@ fn answers_have_as_many_fields_on_each_side() {
         assert!(body(SHARD, &format!("tyvarmos_{name}")).ends_with(&told), "{name}");
     }
     assert_eq!(field_counts("let values = [1, 2,\n 3,\n];let values = [0; 7];"), [3, 7]);
+    assert_eq!(field_counts("give(answer, 0, &[f(x), 2]) let values = [1];give(answer, 1, &[0; 7])"), [2, 1, 7]);
 }
 
 /// A name as C writes its constants.

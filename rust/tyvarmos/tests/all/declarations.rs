@@ -79,10 +79,22 @@ pub fn body<'a>(text: &'a str, name: &str) -> &'a str {
     text[start..].split("\n}").next().unwrap()
 }
 
-/// How many fields each answer has that a Rattle text writes.
+/// How many values each list has that a text gives: one that is named before, or one that stands in the call of `give`.
 pub fn field_counts(text: &str) -> Vec<usize> {
-    let lists = text.split("let values = [").skip(1).map(|rest| rest.split("];").next().unwrap());
-    lists.map(|list| list.split_once("; ").map_or_else(|| items(list), |(_, count)| count.parse().unwrap())).collect()
+    let mut counts = Vec::new();
+    let mut rest = text;
+    while let Some((start, end)) = next_list(rest) {
+        let (list, after) = rest[start..].split_once(end).unwrap();
+        counts.push(list.split_once("; ").map_or_else(|| items(list), |(_, count)| count.parse().unwrap()));
+        rest = after;
+    }
+    counts
+}
+
+/// Where the next such list begins in a text, and what ends it.
+fn next_list(text: &str) -> Option<(usize, &'static str)> {
+    let forms = [("let values = [", "];"), (", &[", "])")];
+    forms.iter().filter_map(|(begin, end)| text.find(begin).map(|at| (at + begin.len(), *end))).min()
 }
 
 /// How many words with commas between them, one after the last allowed.

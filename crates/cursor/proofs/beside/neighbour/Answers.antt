@@ -14,44 +14,36 @@ use Rattle.cursor.specs.Working.{has_beside, page_at, turn_of}
 use Rattle.cursor.proofs.BesideLaws.{nothing_over}
 use Rattle.cursor.proofs.LevelLaws.{level_page, level_turn, none_here, some_here}
 use Rattle.cursor.proofs.beside.neighbour.Goals as goal
-use Rattle.cursor.proofs.beside.neighbour.Goals.{In-loop-level, Start}
+use Rattle.cursor.proofs.beside.neighbour.Goals.{In-loop-k, Start}
 
 sixteen : (s : Start) → length s.args.c.steps ≡ 16
 sixteen s = search rules
 
-pub loop-level-init : goal.loop-level-init
-loop-level-init c =
-    let a = c.args in (
-      omega arith,
-      nothing_over a.n (view_of a.image.now a.p a.n) a.way (16 - a.c.length) (eqb a.c.length 0) (page_at a.c a.c.length) a.c.steps a.c.length
-          (let e = sixteen (goal.at.loop-level-init c).Start in let f = c.requires.1 in omega arith),
-    )
+pub loop-k-init : goal.loop-k-init
+loop-k-init c =
+    let a = c.args in
+    nothing_over a.n (view_of a.image.now a.p a.n) a.way (16 - a.c.length) (eqb a.c.length 0) (page_at a.c a.c.length) a.c.steps a.c.length
+    (let e = sixteen (goal.at.loop-k-init c).Start in let f = c.requires.1 in omega arith)
 
-below-16 : (c : In-loop-level) → c.loop-level.level - 1 < c.args.c.length
-below-16 c = let i = c.loop-level.invariant.0 in omega arith
-
-pub offset_bounds-steps-k : goal.offset_bounds-steps-k
-offset_bounds-steps-k c = let l = below-16 c in let f = c.requires.1 in omega arith
-
-pub bounds-steps-k : goal.bounds-steps-k
-bounds-steps-k c = let l = below-16 c in let f = c.requires.1 in omega arith
+below-16 : (c : In-loop-k) → c.loop-k.k - 1 < c.args.c.length
+below-16 c = omega arith
 
 pub count_at-count-requires : goal.count_at-count-requires
 count_at-count-requires c =
     let a = c.args in
-    (level_page a.image.now a.p a.n c.requires.0 a.c (sixteen (goal.at.count_at-count-requires c).Start) c.requires.1 c.requires.2 (c.loop-level.level - 1) (below-16 (goal.at.count_at-count-requires c).In-loop-level)).0
+    (level_page a.image.now a.p a.n c.requires.0 a.c (sixteen (goal.at.count_at-count-requires c).Start) c.requires.1 c.requires.2 (c.loop-k.k - 1) (below-16 (goal.at.count_at-count-requires c).In-loop-k)).0
 
 pub has_beside-requires : goal.has_beside-requires
 has_beside-requires c =
     let a = c.args in
     rw c.count_at-count.ensures
-    (level_page a.image.now a.p a.n c.requires.0 a.c (sixteen (goal.at.has_beside-requires c).Start) c.requires.1 c.requires.2 (c.loop-level.level - 1) (below-16 (goal.at.has_beside-requires c).In-loop-level)).1
+    (level_page a.image.now a.p a.n c.requires.0 a.c (sixteen (goal.at.has_beside-requires c).Start) c.requires.1 c.requires.2 (c.loop-k.k - 1) (below-16 (goal.at.has_beside-requires c).In-loop-k)).1
 
 pub beside-i-requires : goal.beside-i-requires
 beside-i-requires c =
     let a = c.args in (
       rw c.count_at-count.ensures
-          (level_page a.image.now a.p a.n c.requires.0 a.c (sixteen (goal.at.beside-i-requires c).Start) c.requires.1 c.requires.2 (c.loop-level.level - 1) (below-16 (goal.at.beside-i-requires c).In-loop-level)).1,
+          (level_page a.image.now a.p a.n c.requires.0 a.c (sixteen (goal.at.beside-i-requires c).Start) c.requires.1 c.requires.2 (c.loop-k.k - 1) (below-16 (goal.at.beside-i-requires c).In-loop-k)).1,
       sym c.has_beside.ensures ∙ c.if-has_beside.true,
     )
 
@@ -59,36 +51,29 @@ pub turn-requires : goal.turn-requires
 turn-requires c =
     let a = c.args in
     let j = rw c.count_at-count.ensures at c.beside-i.ensures.1 in
-    (c.requires.0, below-16 (goal.at.turn-requires c).In-loop-level, c.requires.1, level_turn a.image.now a.p a.n c.requires.0 a.c (sixteen (goal.at.turn-requires c).Start) c.requires.1 c.requires.2 (c.loop-level.level - 1) c.beside-i.result (below-16 (goal.at.turn-requires c).In-loop-level) j)
+    (c.requires.0, below-16 (goal.at.turn-requires c).In-loop-k, c.requires.1, level_turn a.image.now a.p a.n c.requires.0 a.c (sixteen (goal.at.turn-requires c).Start) c.requires.1 c.requires.2 (c.loop-k.k - 1) c.beside-i.result (below-16 (goal.at.turn-requires c).In-loop-k) j)
 
 -- nothing beside on the level after this one
-after : (c : In-loop-level)
+after : (c : In-loop-k)
     → let a = c.args in
-    neighbour a.n (view_of a.image.now a.p a.n) a.way (16 - (c.loop-level.level - 1 + 1)) (eqb (c.loop-level.level - 1 + 1) 0) (page_at a.c (c.loop-level.level - 1 + 1)) (drop (c.loop-level.level - 1 + 1) (path_of a.c))
+    neighbour a.n (view_of a.image.now a.p a.n) a.way (16 - (c.loop-k.k - 1 + 1)) (eqb (c.loop-k.k - 1 + 1) 0) (page_at a.c (c.loop-k.k - 1 + 1)) (drop (c.loop-k.k - 1 + 1) (path_of a.c))
     ≡ end
-after c = let e : c.loop-level.level - 1 + 1 ≡ c.loop-level.level = omega arith in rw e c.loop-level.invariant.1
+after c = let e : c.loop-k.k - 1 + 1 ≡ c.loop-k.k = omega arith in rw e c.loop-k.invariant
 
 pub returns-then-has_beside : goal.returns-then-has_beside
 returns-then-has_beside c =
     let a = c.args in
     let i = c.beside-i.ensures.0 in
-    let h : has_beside a.way (count_of (block_of a.image.now a.p (page_at a.c (c.loop-level.level - 1)))) (get_or a.c.steps (c.loop-level.level - 1) (step 0 0)).index ≡ true =
+    let h : has_beside a.way (count_of (block_of a.image.now a.p (page_at a.c (c.loop-k.k - 1)))) (get_or a.c.steps (c.loop-k.k - 1) (step 0 0)).index ≡ true =
     rw c.count_at-count.ensures at (sym c.has_beside.ensures ∙ c.if-has_beside.true) in
     let j = rw (c.count_at-count.ensures, i) at c.beside-i.ensures.1 in
     c.turn.ensures
-    ∙ ap (λ (x : ℕ). moved_of a.given (turn_of a.image.now a.p a.n a.way a.c (c.loop-level.level - 1) x)) i
-    ∙ sym (ap (moved_of a.given) (some_here a.image.now a.p a.n c.requires.0 a.c (sixteen (goal.at.returns-then-has_beside c).Start) c.requires.1 c.requires.2 a.way (c.loop-level.level - 1) (below-16 (goal.at.returns-then-has_beside c).In-loop-level) (after (goal.at.returns-then-has_beside c).In-loop-level) h j))
+    ∙ ap (λ (x : ℕ). moved_of a.given (turn_of a.image.now a.p a.n a.way a.c (c.loop-k.k - 1) x)) i
+    ∙ sym (ap (moved_of a.given) (some_here a.image.now a.p a.n c.requires.0 a.c (sixteen (goal.at.returns-then-has_beside c).Start) c.requires.1 c.requires.2 a.way (c.loop-k.k - 1) (below-16 (goal.at.returns-then-has_beside c).In-loop-k) (after (goal.at.returns-then-has_beside c).In-loop-k) h j))
 
-pub loop-level-preserved : goal.loop-level-preserved
-loop-level-preserved c =
+pub loop-k-preserved : goal.loop-k-preserved
+loop-k-preserved c =
     let a = c.args in
-    let h : has_beside a.way (count_of (block_of a.image.now a.p (page_at a.c (c.loop-level.level - 1)))) (get_or a.c.steps (c.loop-level.level - 1) (step 0 0)).index ≡ false =
+    let h : has_beside a.way (count_of (block_of a.image.now a.p (page_at a.c (c.loop-k.k - 1)))) (get_or a.c.steps (c.loop-k.k - 1) (step 0 0)).index ≡ false =
     rw c.count_at-count.ensures at (sym c.has_beside.ensures ∙ c.if-has_beside.false) in
-    let l = below-16 (goal.at.loop-level-preserved c).In-loop-level in
-    (omega arith, none_here a.image.now a.p a.n c.requires.0 a.c (sixteen (goal.at.loop-level-preserved c).Start) c.requires.1 c.requires.2 a.way (c.loop-level.level - 1) (below-16 (goal.at.loop-level-preserved c).In-loop-level) (after (goal.at.loop-level-preserved c).In-loop-level) h)
-
-pub returns : goal.returns
-returns c =
-    let a = c.args in
-    let z : c.loop-level.level ≡ 0 = omega arith in
-    sym (ap (moved_of a.given) (rw z at c.loop-level.invariant.1))
+    (none_here a.image.now a.p a.n c.requires.0 a.c (sixteen (goal.at.loop-k-preserved c).Start) c.requires.1 c.requires.2 a.way (c.loop-k.k - 1) (below-16 (goal.at.loop-k-preserved c).In-loop-k) (after (goal.at.loop-k-preserved c).In-loop-k) h)

@@ -1,7 +1,7 @@
 -- `cursor::beside::neighbour` meets its contract. The loop's invariant: from `level` on down the path has nothing beside it.
 -- Assumes nothing.
 use mathlib.Core.Path.{◌≡◌}
-use Prim.Native.Nat.{◌-◌, ◌≤◌}
+use Prim.Native.Nat.{◌-◌}
 use lib.Dec.{eqb}
 use lib.ListN.{drop}
 use Rattle.path.specs.Path.{end, neighbour}
@@ -10,9 +10,6 @@ use Rattle.cursor.specs.Cursor.{path_of}
 use Rattle.cursor.specs.Working.{page_at}
 use Rattle.cursor.proofs.beside.neighbour.Given as goal
 
-abbrev pub invariant-loop-level : goal.invariant-loop-level
-invariant-loop-level l =
-    (l.level ≤ l.c.length) × (neighbour l.n (view_of l.image l.p l.n) l.way (16 - l.level) (eqb l.level 0) (page_at l.c l.level) (drop l.level (path_of l.c)) ≡ end)
-
-abbrev pub decreases-loop-level : goal.decreases-loop-level
-decreases-loop-level l = l.level
+abbrev pub invariant-loop-k : goal.invariant-loop-k
+invariant-loop-k l =
+    neighbour l.n (view_of l.image l.p l.n) l.way (16 - l.k) (eqb l.k 0) (page_at l.c l.k) (drop l.k (path_of l.c)) ≡ end

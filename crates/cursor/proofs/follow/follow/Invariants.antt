@@ -12,9 +12,6 @@ use Rattle.cursor.proofs.follow.follow.Given as goal
 
 abbrev pub invariant-loop-k : goal.invariant-loop-k
 invariant-loop-k l =
-    (l.k ≤ l.length) × (l.length ≤ 16)
+    (l.length ≤ 16)
     × (followed_of (follow l.n (view_of l.image l.p l.n) 16 true l.root (take l.length l.steps))
     ≡ followed_of (follow l.n (view_of l.image l.p l.n) (16 - l.k) (eqb l.k 0) l.q (drop l.k (take l.length l.steps))))
-
-abbrev pub decreases-loop-k : goal.decreases-loop-k
-decreases-loop-k l = l.length - l.k

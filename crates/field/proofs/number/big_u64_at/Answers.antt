@@ -1,13 +1,12 @@
--- `field::number::big_u64_at` meets its contract: the bytes of a number that was read, the other way round. Assumes nothing.
-use Prim.Native.Nat.{ℕ}
-use mathlib.Core.Path.{ap, ◌∙◌}
+-- `field::number::big_u64_at` meets its contract: std's sum is the field of the part read. Assumes nothing.
 use native.Mathlib.Omega.{arith}
-use Rattle.field.specs.Field.{bytes_of, big_field}
-use Rattle.field.proofs.FieldLaws.{turned_field}
+use Prim.Native.Nat.{◌+◌, ◌-◌}
+use Rattle.field.specs.Field.{big_field}
+use Rattle.field.proofs.FieldLaws.{big_part}
 use Rattle.field.proofs.number.big_u64_at.Goals as goal
 
 pub returns : goal.returns
+unfolding big_field
 returns c =
-    c.turned.ensures
-    ∙ ap (λ (x : ℕ). big_field 8 (bytes_of 8 x) 0) c.u64_at.ensures
-    ∙ turned_field 8 c.args.s.now c.args.at (λ k. omega (arith, c.shared_slice_known-1.given k))
+    let at = c.args.at in
+    omega (arith, c.from_be_bytes.ensures, big_part 8 c.args.s.now at (at + 8 - at) (omega arith))

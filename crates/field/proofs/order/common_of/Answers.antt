@@ -1,5 +1,4 @@
 use mathlib.Core.Path.{sym}
-use mathlib.Core.Logic.{⊎_elim}
 use native.Mathlib.Omega.{arith}
 use Rattle.field.proofs.CommonLaws.{common_within, common_flip, common_more, common_ends}
 use Rattle.field.proofs.order.common_of.Goals as goal
@@ -21,4 +20,4 @@ returns c =
     let second = common_within a.b.now a.a.now in
     let same = common_flip a.a.now a.b.now in
     let inv = c.loop-i.invariant in
-    ⊎_elim (λ e. omega arith) (λ e. omega arith) c.least-n.ensures.2
+    omega (arith, c.min-n.ensures)

@@ -1,19 +1,18 @@
-use mathlib.Core.Path.{refl, sym, ◌∙◌}
+-- `field::run::clear` meets its contract: the part that it overwrites is the zeros put. Assumes nothing.
 use native.Mathlib.Omega.{arith}
-use lib.ListN.{length-set}
-use Rattle.field.proofs.RunLaws.{zero_turn, zero_done}
+use mathlib.Core.Path.{◌≡◌, sym, ap, ◌∙◌}
+use Prim.Native.Nat.{ℕ, ◌-◌}
+use lib.ListN.{length, take, drop, replicate, length-drop}
+use lib.Seq.{length-take-le}
+use Rattle.field.specs.Run.{put_at}
+use Rattle.field.proofs.RunLaws.{mid_put}
 use Rattle.field.proofs.run.clear.Goals as goal
-
-pub loop-i-init : goal.loop-i-init
-loop-i-init c = (omega arith, refl, refl)
-
-pub loop-i-preserved : goal.loop-i-preserved
-loop-i-preserved c =
-    let l = c.loop-i in
-    let a = c.args in
-    (omega arith, simp length-set l.invariant.1, zero_turn l.out l.i a.end (omega arith) (omega arith) ∙ l.invariant.2)
 
 pub returns : goal.returns
 returns c =
-    let l = c.loop-i in
-    sym (zero_done l.out l.i c.args.end (omega arith)) ∙ l.invariant.2
+    let a = c.args in
+    let e = c.fill.ensures in
+    let o = a.out.now in
+    let part : length (take (a.end - a.at) (drop a.at o)) ≡ a.end - a.at = length-take-le (a.end - a.at) (drop a.at o) (simp length-drop (omega arith)) in
+    let zeros : c.fill.new.self ≡ replicate (a.end - a.at) 0 = e.after (λ y h. h) ∙ ap (λ (n : ℕ). replicate n 0) part in
+    mid_put o _ a.at _ (rw e.len (sym part)) ∙ ap (put_at o a.at) zeros

@@ -1,22 +1,12 @@
-use Prim.Native.Nat.{◌+◌}
-use mathlib.Core.Path.{refl, sym, ◌∙◌}
-use native.Mathlib.Nat.{add-zero}
+-- `field::run::copy` meets its contract: the part that it overwrites is the run put. Assumes nothing.
 use native.Mathlib.Omega.{arith}
-use lib.ListN.{length-set}
-use Rattle.field.proofs.RunLaws.{put_turn, put_done}
+use mathlib.Core.Path.{ap, ◌∙◌}
+use Rattle.field.specs.Run.{put_at}
+use Rattle.field.proofs.RunLaws.{mid_put}
 use Rattle.field.proofs.run.copy.Goals as goal
-
-pub loop-j-init : goal.loop-j-init
-loop-j-init c = (omega arith, refl, rw add-zero)
-
-pub loop-j-preserved : goal.loop-j-preserved
-loop-j-preserved c =
-    let l = c.loop-j in
-    let a = c.args in
-    (omega arith, simp length-set l.invariant.1, put_turn l.out a.src.now a.at l.j (omega arith) (omega arith) ∙ l.invariant.2)
 
 pub returns : goal.returns
 returns c =
-    let l = c.loop-j in
     let a = c.args in
-    sym (put_done l.out a.src.now (a.at + l.j) l.j (omega arith)) ∙ l.invariant.2
+    let e = c.copy_from_slice.ensures in
+    mid_put a.out.now _ a.at _ (rw e.after (omega arith)) ∙ ap (put_at a.out.now a.at) e.after

@@ -6,26 +6,27 @@ use Prim.Native.Nat.{ℕ}
 use Rattle.freelist.specs.Table.{is_state, state_of}
 use Rattle.freelist.proofs.WordLaws.{all_words}
 use Rattle.freelist.proofs.check.all_states.Goals as goal
+use Rattle.freelist.proofs.check.all_states.Goals.{then-word_passes, else-word_passes}
 
-pub returns-then-not-word_passes : goal.returns-then-not-word_passes
-returns-then-not-word_passes c =
+pub returns-then-words_pass : goal.returns-then-words_pass
+returns-then-words_pass c =
     let a = c.args in
     let ok : ℕ → Bool = λ p. is_state (state_of a.t.now p) in
-    let e = sym c.word_passes-2.ensures ∙ c.if-not-word_passes.true in
-    sym (all_words ok a.n c.if-n-lt64.false ∙ rw e)
+    elim c.if-word_passes.branch [
+      | then-word_passes w ↦ (let e = sym c.word_passes-2.ensures ∙ w.if-word_passes.true in
+          let f = sym w.words_pass.ensures ∙ sym w.value-is ∙ c.if-words_pass.true in
+          c.word_passes-then-words_pass.ensures ∙ sym (all_words ok a.n c.if-n-lt64.false ∙ rw (e, f)))
+      | else-word_passes w ↦ cc
+    ]
 
-pub returns-then-not-words_pass : goal.returns-then-not-words_pass
-returns-then-not-words_pass c =
+pub returns-else-words_pass : goal.returns-else-words_pass
+returns-else-words_pass c =
     let a = c.args in
     let ok : ℕ → Bool = λ p. is_state (state_of a.t.now p) in
-    let e = sym c.word_passes-2.ensures ∙ c.if-not-word_passes.false in
-    let f = sym c.words_pass.ensures ∙ c.if-not-words_pass.true in
-    sym (all_words ok a.n c.if-n-lt64.false ∙ rw (e, f))
-
-pub returns : goal.returns
-returns c =
-    let a = c.args in
-    let ok : ℕ → Bool = λ p. is_state (state_of a.t.now p) in
-    let e = sym c.word_passes-2.ensures ∙ c.if-not-word_passes.false in
-    let f = sym c.words_pass.ensures ∙ c.if-not-words_pass.false in
-    c.word_passes-3.ensures ∙ sym (all_words ok a.n c.if-n-lt64.false ∙ rw (e, f))
+    elim c.if-word_passes.branch [
+      | then-word_passes w ↦ (let e = sym c.word_passes-2.ensures ∙ w.if-word_passes.true in
+          let f = sym w.words_pass.ensures ∙ sym w.value-is ∙ c.if-words_pass.false in
+          c.if-words_pass.false ∙ sym (all_words ok a.n c.if-n-lt64.false ∙ rw (e, f)))
+      | else-word_passes w ↦ (let e = sym c.word_passes-2.ensures ∙ w.if-word_passes.false in
+          c.if-words_pass.false ∙ sym (all_words ok a.n c.if-n-lt64.false ∙ rw e))
+    ]

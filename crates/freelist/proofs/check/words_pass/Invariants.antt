@@ -11,6 +11,3 @@ use Rattle.freelist.proofs.check.words_pass.Given as goal
 abbrev pub invariant-loop-i : goal.invariant-loop-i
 invariant-loop-i l =
     (eqb l.bad 0 && all (λ p. is_state (state_of l.t p)) (pages_from (64 * l.i) (64 * l.m - 64 * l.i))) ≡ all (λ p. is_state (state_of l.t p)) (pages_from 64 (64 * l.m - 64))
-
-abbrev pub decreases-loop-i : goal.decreases-loop-i
-decreases-loop-i l = l.m - l.i

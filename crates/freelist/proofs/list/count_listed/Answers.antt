@@ -3,6 +3,7 @@ use native.Mathlib.Omega.{arith}
 use lib.ListN.{length}
 use Rattle.freelist.proofs.ListLaws.{listing_start, listing_few, count_next, count_skip, count_end}
 use Rattle.freelist.proofs.list.count_listed.Goals as goal
+use Rattle.freelist.proofs.list.count_listed.Goals.{then-is_listed, else-is_listed}
 
 pub loop-i-init : goal.loop-i-init
 loop-i-init c = let a = c.args in omega (arith, ap length (listing_start a.t.now a.n))
@@ -10,19 +11,15 @@ loop-i-init c = let a = c.args in omega (arith, ap length (listing_start a.t.now
 pub overflow_add-count : goal.overflow_add-count
 overflow_add-count c = let a = c.args in omega (arith, listing_few a.t.now a.n)
 
-pub loop-i-preserved-then-is_listed : goal.loop-i-preserved-then-is_listed
-loop-i-preserved-then-is_listed c =
-    let a = c.args in
-    let l = c.loop-i in
-    let e = sym c.is_listed.ensures ∙ c.if-is_listed.true in
-    omega (arith, l.invariant, count_next a.t.now a.n l.i c.loop-i-test.true e)
-
 pub loop-i-preserved : goal.loop-i-preserved
 loop-i-preserved c =
     let a = c.args in
     let l = c.loop-i in
-    let e = sym c.is_listed.ensures ∙ c.if-is_listed.false in
-    omega (arith, l.invariant, count_skip a.t.now a.n l.i c.loop-i-test.true e)
+    let f = l.invariant in
+    elim c.if-is_listed.branch [
+      | then-is_listed w ↦ (omega (arith, count_next a.t.now a.n l.i c.loop-i-test.true (sym c.is_listed.ensures ∙ w.if-is_listed.true)))
+      | else-is_listed w ↦ (omega (arith, count_skip a.t.now a.n l.i c.loop-i-test.true (sym c.is_listed.ensures ∙ w.if-is_listed.false)))
+    ]
 
 pub returns : goal.returns
 returns c =

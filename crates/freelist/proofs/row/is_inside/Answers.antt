@@ -1,17 +1,14 @@
 -- `freelist::row::is_inside` meets its contract. Each test is one of the definition.
 -- Assumes nothing.
-use native.Mathlib.Omega.{arith}
-use Rattle.freelist.proofs.NumberLaws.{none_asked, too_low, too_high, rest_asked}
+use Rattle.std.proofs.Common.{arith}
+use Rattle.std.proofs.lemmas.Bool.Decides.{nat_tests}
+use Rattle.freelist.specs.Freelist.{block_allowed}
 use Rattle.freelist.proofs.row.is_inside.Goals as goal
 
-pub returns-then-count-lt1 : goal.returns-then-count-lt1
-returns-then-count-lt1 c = let a = c.args in none_asked a.n a.p a.count (omega arith)
+pub returns-then-p-n : goal.returns-then-p-n
+unfolding block_allowed
+returns-then-p-n c = grind (arith, nat_tests)
 
-pub returns-then-p-lt2 : goal.returns-then-p-lt2
-returns-then-p-lt2 c = let a = c.args in too_low a.n a.p a.count (omega arith) (omega arith)
-
-pub returns-then-n-p : goal.returns-then-n-p
-returns-then-n-p c = let a = c.args in too_high a.n a.p a.count (omega arith) (omega arith) (omega arith)
-
-pub returns : goal.returns
-returns c = let a = c.args in rest_asked a.n a.p a.count (omega arith) (omega arith) (omega arith)
+pub returns-else-p-n : goal.returns-else-p-n
+unfolding block_allowed
+returns-else-p-n c = grind (arith, nat_tests)

@@ -1,11 +1,7 @@
 -- `freelist::run::lowest_run` meets its contract. The loop's invariant is `Scan`.
 -- Assumes nothing.
-use Prim.Native.Nat.{◌-◌}
 use Rattle.freelist.proofs.RunLaws.{Scan}
 use Rattle.freelist.proofs.run.lowest_run.Given as goal
 
 abbrev pub invariant-loop-i : goal.invariant-loop-i
-invariant-loop-i l = Scan l.t l.n l.pages l.i l.len
-
-abbrev pub decreases-loop-i : goal.decreases-loop-i
-decreases-loop-i l = l.n - l.i
+invariant-loop-i l = Scan l.t l.n l.pages l.i l.start

@@ -1,20 +1,17 @@
-use mathlib.Core.Path.{refl, sym, ◌∙◌}
+-- `freelist::table::clear_bits` meets its contract: zeros stand at the front of the table.
+-- Assumes nothing.
 use native.Mathlib.Omega.{arith}
-use lib.ListN.{length-set}
-use Rattle.field.proofs.RunLaws.{zero_turn, zero_done}
+use lib.ListN.{replicate}
+use lib.Seq.{length-take-le}
+use Rattle.field.proofs.RunLaws.{put_start}
 use Rattle.freelist.specs.Freelist.{new_table}
 use Rattle.freelist.proofs.table.clear_bits.Goals as goal
 
-pub loop-i-init : goal.loop-i-init
-unfolding new_table
-loop-i-init c = (omega arith, refl, refl)
-
-pub loop-i-preserved : goal.loop-i-preserved
-loop-i-preserved c =
-    let l = c.loop-i in
-    (omega arith, simp length-set l.invariant.1, zero_turn l.t l.i 1024 (omega arith) (omega arith) ∙ l.invariant.2)
-
 pub returns : goal.returns
+unfolding new_table
 returns c =
-    let l = c.loop-i in
-    sym (zero_done l.t l.i 1024 (omega arith)) ∙ l.invariant.2
+    let t = c.args.t.now in
+    let e = c.fill.ensures.after (λ y e. e) in
+    let l = length-take-le 1024 t (omega arith) in
+    let s = put_start t (replicate 1024 0) in
+    rw (e, l, s)

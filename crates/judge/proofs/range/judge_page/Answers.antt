@@ -3,15 +3,18 @@ use mathlib.Core.Path.{◌≡◌, sym, ap, ◌∙◌}
 use Prim.Native.Nat.{◌*◌, ◌≤◌}
 use native.Mathlib.Omega.{arith}
 use lib.ListN.{length, drop}
-use Rattle.page.specs.declared.rules.Verdict.{Verdict}
+use Rattle.std.proofs.Common.{rules}
+use Rattle.std.specs.Prelude.{Ok}
+use Rattle.std.specs.declared.result.Result.{Result}
 use Rattle.page.specs.Layout.{count_of}
-use Rattle.page.specs.PageRules.{after_check}
-use Rattle.judge.specs.declared.range.Page.TheVariants.{Branch, Leaf, Breach}
-use Rattle.judge.specs.Walk.{upper_of}
+use Rattle.judge.specs.declared.range.Page.TheVariants.{Branch, Leaf}
+use Rattle.judge.specs.Walk.{upper_of, on_page, judge_page_of}
+use Rattle.view.specs.View.{view_of}
+use Rattle.view.specs.declared.Fault.{Fault}
 use Rattle.view.proofs.ViewFrame.{header_ends}
-use Rattle.judge.proofs.PageLaws.{leaf_page, branch_page}
+use Rattle.judge.proofs.PageLaws.{unless_bad, leaf_page, branch_page}
 use Rattle.judge.proofs.range.judge_page.Goals as goal
-use Rattle.judge.proofs.range.judge_page.Goals.{After-block-b, After-judge_block, After-judge_block-else-is_leaf}
+use Rattle.judge.proofs.range.judge_page.Goals.{After-block-b, After-on_page, After-on_page-2}
 
 pub block-b-requires : goal.block-b-requires
 block-b-requires c =
@@ -23,55 +26,38 @@ long c =
     omega (arith, c.requires.0.least_size)
 
 -- the page's verdict, by what the block's was
-leaf-told : (c : After-judge_block)
+leaf-told : (c : After-on_page)
     → let a = c.args in
-    Rattle.judge.specs.Walk.judge_page_of (Rattle.view.specs.View.view_of a.image.now a.p a.n a.q a.top) a.q a.low.now (upper_of a.bounded a.high.now)
-    ≡ after_check c.judge_block.result (λ r. Breach r a.q) (Leaf (count_of c.block-b.result.now))
+    judge_page_of (view_of a.image.now a.p a.n a.q a.top) a.q a.low.now (upper_of a.high) ≡ unless_bad c.on_page.result (Leaf (count_of c.block-b.result.now))
 leaf-told c =
     let a = c.args in
-    leaf_page a.image.now a.p a.n a.q a.top a.low.now (upper_of a.bounded a.high.now) c.block-b.result.now c.block-b.ensures.0 c.requires.2
+    leaf_page a.image.now a.p a.n a.q a.top a.low.now (upper_of a.high) c.block-b.result.now c.block-b.ensures.0 c.requires.2
     (sym c.is_leaf.ensures ∙ c.if-is_leaf.true)
-    ∙ ap (λ (v : Verdict). after_check v (λ r. Breach r a.q) (Leaf (count_of c.block-b.result.now))) (sym c.judge_block.ensures)
+    ∙ ap (λ (r : Result Unit Fault). unless_bad r (Leaf (count_of c.block-b.result.now))) (sym (c.on_page.ensures ∙ ap (on_page a.q) c.judge_block.ensures))
 
-branch-told : (c : After-judge_block-else-is_leaf)
+branch-told : (c : After-on_page-2)
     → let a = c.args in
-    Rattle.judge.specs.Walk.judge_page_of (Rattle.view.specs.View.view_of a.image.now a.p a.n a.q a.top) a.q a.low.now (upper_of a.bounded a.high.now)
-    ≡ after_check c.judge_block-else-is_leaf.result (λ r. Breach r a.q) (Branch (count_of c.block-b.result.now))
+    judge_page_of (view_of a.image.now a.p a.n a.q a.top) a.q a.low.now (upper_of a.high) ≡ unless_bad c.on_page-2.result (Branch (count_of c.block-b.result.now))
 branch-told c =
     let a = c.args in
-    branch_page a.image.now a.p a.n a.q a.top a.low.now (upper_of a.bounded a.high.now) c.block-b.result.now c.block-b.ensures.0 c.requires.2
+    branch_page a.image.now a.p a.n a.q a.top a.low.now (upper_of a.high) c.block-b.result.now c.block-b.ensures.0 c.requires.2
     (sym c.is_leaf.ensures ∙ c.if-is_leaf.false)
-    ∙ ap (λ (v : Verdict). after_check v (λ r. Breach r a.q) (Branch (count_of c.block-b.result.now))) (sym c.judge_block-else-is_leaf.ensures)
+    ∙ ap (λ (r : Result Unit Fault). unless_bad r (Branch (count_of c.block-b.result.now))) (sym (c.on_page-2.ensures ∙ ap (on_page a.q) c.judge_block-2.ensures))
 
-pub returns-in-Breach : goal.returns-in-Breach
-returns-in-Breach c =
-    sym (leaf-told (goal.at.returns-in-Breach c).After-judge_block ∙ ap (λ (v : Verdict). after_check v (λ r. Breach r c.args.q) (Leaf (count_of c.block-b.result.now))) c.in-Breach.is)
+pub returns-in_err-on_page : goal.returns-in_err-on_page
+returns-in_err-on_page c = rw (leaf-told (goal.at.returns-in_err-on_page c).After-on_page, c.in_err-on_page.was) (search rules)
 
-pub returns-in-Sound : goal.returns-in-Sound
-returns-in-Sound c =
-    ap Leaf c.count.ensures
-    ∙ sym (leaf-told (goal.at.returns-in-Sound c).After-judge_block ∙ ap (λ (v : Verdict). after_check v (λ r. Breach r c.args.q) (Leaf (count_of c.block-b.result.now))) c.in-Sound.is)
+pub returns-then-is_leaf : goal.returns-then-is_leaf
+returns-then-is_leaf c = rw (leaf-told (goal.at.returns-then-is_leaf c).After-on_page, c.in_ok-on_page.was) (ap (λ n. Ok (Leaf n)) c.count.ensures)
 
-pub returns-in-Breach-judge_block : goal.returns-in-Breach-judge_block
-returns-in-Breach-judge_block c =
-    sym (branch-told (goal.at.returns-in-Breach-judge_block c).After-judge_block-else-is_leaf ∙ ap (λ (v : Verdict). after_check v (λ r. Breach r c.args.q) (Branch (count_of c.block-b.result.now))) c.in-Breach-judge_block.is)
+pub returns-in_err-on_page-2 : goal.returns-in_err-on_page-2
+returns-in_err-on_page-2 c = rw (branch-told (goal.at.returns-in_err-on_page-2 c).After-on_page-2, c.in_err-on_page-2.was) (search rules)
 
-pub returns-in-Sound-judge_block : goal.returns-in-Sound-judge_block
-returns-in-Sound-judge_block c =
-    ap Branch c.count-in-Sound-judge_block.ensures
-    ∙ sym (branch-told (goal.at.returns-in-Sound-judge_block c).After-judge_block-else-is_leaf ∙ ap (λ (v : Verdict). after_check v (λ r. Breach r c.args.q) (Branch (count_of c.block-b.result.now))) c.in-Sound-judge_block.is)
+pub returns : goal.returns
+returns c = rw (branch-told (goal.at.returns c).After-on_page-2, c.in_ok-on_page-2.was) (ap (λ n. Ok (Branch n)) c.count-2.ensures)
 
 pub is_leaf-requires : goal.is_leaf-requires
 is_leaf-requires c = long c
 
 pub judge_block-requires : goal.judge_block-requires
 judge_block-requires c = long (goal.at.judge_block-requires c).After-block-b
-
-pub count-requires : goal.count-requires
-count-requires c = long (goal.at.count-requires c).After-block-b
-
-pub judge_block-requires-else-is_leaf : goal.judge_block-requires-else-is_leaf
-judge_block-requires-else-is_leaf c = long (goal.at.judge_block-requires-else-is_leaf c).After-block-b
-
-pub count-requires-in-Sound-judge_block : goal.count-requires-in-Sound-judge_block
-count-requires-in-Sound-judge_block c = long (goal.at.count-requires-in-Sound-judge_block c).After-block-b

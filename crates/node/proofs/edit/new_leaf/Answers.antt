@@ -1,9 +1,8 @@
--- `node::edit::new_leaf` meets its contract: 1 for a page size that is not allowed, and else a leaf of no entries. Assumes nothing.
-use mathlib.Core.Path.{◌≡◌, sym, ◌∙◌}
+-- `node::edit::new_leaf` meets its contract: a refusal for a page size that is not allowed, and else a leaf of no entries. Assumes nothing.
+use mathlib.Core.Path.{◌≡◌, sym, ap, ◌∙◌}
+use Rattle.std.specs.Prelude.{Err}
 use mathlib.Core.Bool.{true}
-use native.Mathlib.Omega.{arith}
 use Rattle.field.specs.Sizes.{size_allowed}
-use Rattle.node.proofs.NodeLaws.{allowed_range}
 use Rattle.node.proofs.EditLaws.{same_edits, refused_edits, leaf_size, leaf_goes}
 use Rattle.node.proofs.edit.new_leaf.Goals as goal
 use Rattle.node.proofs.edit.new_leaf.Goals.{Else-not-size_allowed}
@@ -14,12 +13,7 @@ allowed c = sym c.size_allowed.ensures ∙ c.if-not-size_allowed.false
 pub returns-then-not-size_allowed : goal.returns-then-not-size_allowed
 returns-then-not-size_allowed c =
     let a = c.args in
-    refused_edits true a.id a.p a.out.now 1 0 0 (leaf_size a.p a.out.now (sym c.size_allowed.ensures ∙ c.if-not-size_allowed.true))
-
-pub write_new-requires : goal.write_new-requires
-write_new-requires c =
-    let r = allowed_range c.args.p (allowed (goal.at.write_new-requires c).Else-not-size_allowed) in
-    (omega arith, r.1)
+    refused_edits true a.id a.p a.out.now _ (leaf_size a.p a.out.now (sym c.size_allowed.ensures ∙ c.if-not-size_allowed.true) ∙ ap Err (sym c.from.ensures))
 
 pub returns : goal.returns
 returns c =

@@ -28,5 +28,5 @@ returns c =
     let n = c.count-n in
     let a = c.args in
     let b = a.b.now in
-    let e = plan_remove true b a.i 0 n.result b b n.ensures (omega arith) in
+    let e = plan_remove true b a.i n.result b b n.ensures (omega arith) in
     same_node true a.p a.out.now e c.id-page.ensures c.write_planned.ensures

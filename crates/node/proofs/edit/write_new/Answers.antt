@@ -13,5 +13,5 @@ write_planned-requires c =
 pub returns : goal.returns
 returns c =
     let a = c.args in
-    let e = plan_new a.leaf (replicate 32 0) a.some a.tag a.key.now a.value.now in
+    let e = plan_new a.leaf (replicate 32 0) a.tag a.key.now a.value.now in
     same_node a.leaf a.p a.out.now e refl c.write_planned.ensures

@@ -1,6 +1,6 @@
 -- `node::place::plan_of` meets its contract: the plan of a replacement where the key is found, else of an insertion at its place. Assumes nothing.
 use mathlib.Core.Path.{◌≡◌, sym, ◌∙◌}
-use mathlib.Core.Bool.{true, false}
+use mathlib.Core.Bool.{true}
 use native.Mathlib.Omega.{arith}
 use Prim.Native.Nat.{◌<◌}
 use Rattle.page.specs.Layout.{count_of, key_of}
@@ -32,14 +32,9 @@ returns-then-place c =
     let l = h.0 in (
       record { front = omega arith; middle = omega arith; back = omega arith; end = omega arith },
       λ value.
-          plan_replace a.leaf a.b.now at a.tag n.result a.key.now value e (omega arith)
+          plan_replace a.leaf a.b.now at n.result a.key.now value e a.tag (omega arith)
           ∙ sym (insert_equal a.leaf a.b.now a.tag a.key.now value at c.requires l h.1),
     )
-
-pub insertion_place-i-requires : goal.insertion_place-i-requires
-insertion_place-i-requires c =
-    let p = c.find-place.result in
-    (c.count-n.ensures, c.requires, sym c.find-place.ensures ∙ place_is p false c.if-place.false)
 
 pub returns : goal.returns
 returns c =
@@ -51,6 +46,6 @@ returns c =
     let u = h.upto in (
       record { front = omega arith; middle = omega arith; back = omega arith; end = omega arith },
       λ value.
-          plan_insert a.leaf a.b.now i a.tag n.result a.key.now value e (omega arith)
+          plan_insert a.leaf a.b.now i n.result a.key.now value e a.tag (omega arith)
           ∙ sym (insert_between a.leaf a.b.now a.tag a.key.now value i h),
     )

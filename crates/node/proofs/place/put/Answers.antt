@@ -1,7 +1,6 @@
 -- `node::place::put` meets its contract: the planned entries are those with the new one inserted. Assumes nothing.
 use native.Mathlib.Omega.{arith}
 use Rattle.node.proofs.NodeLaws.{lent, lent_as}
-use Rattle.node.proofs.EditLaws.{same_node}
 use Rattle.node.proofs.place.put.Goals as goal
 
 pub id-page-requires : goal.id-page-requires
@@ -16,8 +15,3 @@ write_planned-requires c =
     let l = lent c.args.p c.args.b.now c.requires.0 in
     let low = l.least in
     record { sound_block = lent_as c.args.p c.args.b.now c.args.leaf c.requires.0 c.requires.1; within = c.plan_of-plan.ensures.0; p_nonzero = (omega arith, l.most) }
-
-pub returns : goal.returns
-returns c =
-    let a = c.args in
-    same_node a.leaf a.p a.out.now (c.plan_of-plan.ensures.1 a.value.now) c.id-page.ensures c.write_planned.ensures

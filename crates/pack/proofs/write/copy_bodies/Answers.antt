@@ -1,25 +1,9 @@
 use Prim.Native.Nat.{◌-◌}
-use mathlib.Core.Path.{refl, sym, ◌∙◌}
-use borrow.Author.Rules.{rules}
+use mathlib.Core.Path.{sym, ◌∙◌}
 use native.Mathlib.Omega.{arith}
 use Rattle.pack.proofs.RangeLaws.{BodiesTurn, entry_room, bodies_turn, bodies_none, bodies_done}
 use Rattle.pack.proofs.write.copy_bodies.Goals as goal
 use Rattle.pack.proofs.write.copy_bodies.Goals.{After-body_end-end}
-
-pub loop-i-init : goal.loop-i-init
-loop-i-init c = (omega arith, refl, refl, refl)
-
-pub run_end-j-requires : goal.run_end-j-requires
-run_end-j-requires c = record { sound_block = c.requires.sound_block; from_lt_to = (omega arith, omega arith) }
-
-pub key_at-start-requires : goal.key_at-start-requires
-key_at-start-requires c =
-    let r = entry_room c.args.leaf c.args.block.now c.requires.sound_block c.loop-i.i (omega arith) in
-    (r.0, omega arith)
-
-pub body_end-end-requires : goal.body_end-end-requires
-body_end-end-requires c =
-    entry_room c.args.leaf c.args.block.now c.requires.sound_block (c.run_end-j.result - 1) (omega arith)
 
 -- the part that is copied is the run
 turn : (t : After-body_end-end) →
@@ -35,9 +19,6 @@ turn t =
 
 pub copy-requires : goal.copy-requires
 copy-requires c = let t = turn (goal.at.copy-requires c).After-body_end-end in omega arith
-
-pub overflow_add-w : goal.overflow_add-w
-overflow_add-w c = let t = turn (goal.at.overflow_add-w c).After-body_end-end in search rules
 
 pub loop-i-preserved : goal.loop-i-preserved
 loop-i-preserved c =

@@ -11,9 +11,6 @@ use Rattle.pack.proofs.write.copy_table.Given as goal
 
 abbrev pub invariant-loop-i : goal.invariant-loop-i
 invariant-loop-i l =
-    (l.i ≤ l.to) × (length l.out ≡ length l.initial.out) × (l.w + element_size l.leaf * (l.to - l.i) ≤ l.e)
+    (length l.out ≡ length l.initial.out) × (l.w + element_size l.leaf * (l.to - l.i) ≤ l.e)
     × (l.e + length (bodies (range l.leaf l.block l.i l.to)) ≡ l.d + length (bodies (range l.leaf l.block l.from l.to)))
     × (put_at l.out l.w (table l.leaf l.w l.e (range l.leaf l.block l.i l.to)) ≡ put_at l.initial.out l.at (table l.leaf l.at l.d (range l.leaf l.block l.from l.to)))
-
-abbrev pub decreases-loop-i : goal.decreases-loop-i
-decreases-loop-i l = l.to - l.i

@@ -12,20 +12,20 @@ use Rattle.pack.proofs.write.put_new_body.Goals as goal
 pub put_body-requires : goal.put_body-requires
 put_body-requires c =
     let a = c.args in
-    let l = some_length a.plan a.key.now a.value.now c.if-plan.true in
+    let l = some_length a.plan a.key.now a.value.now c.in-Some.field-0 c.in-Some.is in
     omega arith
 
-pub returns-then-plan : goal.returns-then-plan
-returns-then-plan c =
+pub returns-in-Some : goal.returns-in-Some
+returns-in-Some c =
     let a = c.args in
-    let l = some_bodies a.plan a.key.now a.value.now c.if-plan.true in
-    let n = some_length a.plan a.key.now a.value.now c.if-plan.true in
+    let l = some_bodies a.plan a.key.now a.value.now c.in-Some.field-0 c.in-Some.is in
+    let n = some_length a.plan a.key.now a.value.now c.in-Some.field-0 c.in-Some.is in
     let o = c.put_body.ensures.1 in
     (omega arith, cc)
 
-pub returns : goal.returns
-returns c =
+pub returns-in-None : goal.returns-in-None
+returns-in-None c =
     let a = c.args in
-    let t = none_bodies a.plan a.key.now a.value.now c.if-plan.false in
+    let t = none_bodies a.plan a.key.now a.value.now c.in-None.is in
     let l : length (bodies (fresh a.plan a.key.now a.value.now)) ≡ 0 = ap length t in
     (omega arith, sym (ap (put_at a.out.now a.at) t ∙ put_nil a.out.now a.at))

@@ -1,6 +1,6 @@
 -- `pack::write::run_end` meets its contract. The loop's invariant: the keys and values so far are one part of the block, up to `end`.
 -- Assumes nothing.
-use Prim.Native.Nat.{◌-◌, ◌≤◌, ◌<◌}
+use Prim.Native.Nat.{◌-◌, ◌≤◌}
 use mathlib.Core.Path.{◌≡◌}
 use lib.ListN.{take, drop}
 use Rattle.page.specs.Layout.{key_at, value_end}
@@ -10,8 +10,5 @@ use Rattle.pack.proofs.write.run_end.Given as goal
 
 abbrev pub invariant-loop-i : goal.invariant-loop-i
 invariant-loop-i l =
-    (l.from < l.i) × (l.i ≤ l.to) × (l.end ≡ value_end l.leaf l.block (l.i - 1)) × (key_at l.leaf l.block l.from ≤ l.end)
+    (l.end ≡ value_end l.leaf l.block (l.i - 1)) × (key_at l.leaf l.block l.from ≤ l.end)
     × (bodies (range l.leaf l.block l.from l.i) ≡ take (l.end - key_at l.leaf l.block l.from) (drop (key_at l.leaf l.block l.from) l.block))
-
-abbrev pub decreases-loop-i : goal.decreases-loop-i
-decreases-loop-i l = l.to - l.i

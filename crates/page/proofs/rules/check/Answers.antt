@@ -1,5 +1,5 @@
 -- `page::rules::check` meets its contract: rule 5, then the one pass, and where that meets a breach, the two. Assumes nothing.
-use mathlib.Core.Path.{◌≡◌, sym, ◌∙◌}
+use mathlib.Core.Path.{◌≡◌, sym, ap, ◌∙◌}
 use Prim.Native.Nat.{◌≤◌}
 use lib.ListN.{length}
 use Rattle.page.specs.Layout.{table_end}
@@ -8,11 +8,12 @@ use Rattle.page.proofs.RuleLaws.{table_good, check_table, check_elements_lem}
 use Rattle.page.proofs.PassLaws.{is_sound_lem}
 use Rattle.page.proofs.rules.check.Goals as goal
 use Rattle.page.proofs.rules.check.Goals.{Else-table_bad}
+use Rattle.std.specs.Prelude.{Err}
 
 pub returns-then-table_bad : goal.returns-then-table_bad
 returns-then-table_bad c =
     let a = c.args in
-    sym (check_table a.leaf a.empty a.b.now (sym c.table_bad.ensures ∙ c.if-table_bad.true))
+    ap Err c.from.ensures ∙ sym (check_table a.leaf a.empty a.b.now (sym c.table_bad.ensures ∙ c.if-table_bad.true))
 
 -- the table lies in the block
 fits : (c : Else-table_bad) → let a = c.args in table_end a.leaf a.b.now ≤ length a.b.now

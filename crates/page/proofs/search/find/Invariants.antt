@@ -2,7 +2,7 @@
 -- The measure is what lies between the two. Assumes nothing.
 use Prim.Native.Nat.{ℕ, ◌-◌, ◌≤◌, ◌<◌}
 use mathlib.Core.Path.{◌≡◌}
-use Rattle.field.specs.declared.order.Order.TheVariants.{Lower, Higher}
+use Rattle.std.specs.declared.cmp.Ordering.TheVariants.{Less, Greater}
 use Rattle.field.specs.Order.{order_of}
 use Rattle.page.specs.Layout.{key_of}
 use Rattle.page.proofs.search.find.Given as goal
@@ -11,8 +11,8 @@ abbrev pub invariant-loop-lo : goal.invariant-loop-lo
 invariant-loop-lo l =
     (l.lo ≤ l.hi)
     × (l.hi ≤ l.n)
-    × ((k : ℕ) → k < l.lo → order_of (key_of l.leaf l.b k) l.key ≡ Lower)
-    × ((k : ℕ) → l.hi ≤ k → k < l.n → order_of (key_of l.leaf l.b k) l.key ≡ Higher)
+    × ((k : ℕ) → k < l.lo → order_of (key_of l.leaf l.b k) l.key ≡ Less)
+    × ((k : ℕ) → l.hi ≤ k → k < l.n → order_of (key_of l.leaf l.b k) l.key ≡ Greater)
 
 abbrev pub decreases-loop-lo : goal.decreases-loop-lo
 decreases-loop-lo l = l.hi - l.lo

@@ -1,4 +1,5 @@
 -- `probe::edits::tyvarmos_insert` meets its contract: it tells and leaves the insertion's outcome at the kind as given, and 1 where the answer buffer is short. Assumes nothing.
+use mathlib.Core.Path.{◌∙◌}
 use mathlib.Core.Bool.{true}
 use native.Mathlib.Omega.{arith}
 use Rattle.page.specs.Layout.{id_of}
@@ -10,7 +11,8 @@ pub returns-then-answer-lt-EDITED_FIELDS : goal.returns-then-answer-lt-EDITED_FI
 returns-then-answer-lt-EDITED_FIELDS c =
     let a = c.args in
     let o = insert_of a.p a.block.now a.key.now a.kind a.value.now a.out.now in
-    edit_short true (id_of a.block.now) a.p a.out.now o a.answer.now (omega arith)
+    let s = edit_short true (id_of a.block.now) a.p a.out.now o a.answer.now (omega arith) in
+    (c.from.ensures ∙ s.0, s.1, s.2)
 
 pub returns : goal.returns
 returns c =

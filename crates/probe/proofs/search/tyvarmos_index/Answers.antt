@@ -2,12 +2,12 @@
 use mathlib.Core.Path.{sym, ◌∙◌}
 use Rattle.probe.proofs.search.tyvarmos_index.Goals as goal
 
-pub returns-in-At : goal.returns-in-At
-returns-in-At c =
-    let e = sym c.index.ensures ∙ c.in-At.is in
-    rw (e, sym c.flag.ensures) c.give.ensures
+pub returns-in-Ok : goal.returns-in-Ok
+returns-in-Ok c =
+    let e = sym c.index.ensures ∙ c.in-Ok.is in
+    rw (e, sym c.from.ensures) c.give.ensures
 
-pub returns-in-Refused : goal.returns-in-Refused
-returns-in-Refused c =
-    let e = sym c.index.ensures ∙ c.in-Refused.is in
-    rw e c.give-in-Refused.ensures
+pub returns-in-Err : goal.returns-in-Err
+returns-in-Err c =
+    let e = sym c.index.ensures ∙ c.in-Err.is in
+    rw (e, sym c.from-in-Err.ensures) c.give-in-Err.ensures

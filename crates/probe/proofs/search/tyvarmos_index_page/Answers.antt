@@ -2,12 +2,12 @@
 use mathlib.Core.Path.{sym, ◌∙◌}
 use Rattle.probe.proofs.search.tyvarmos_index_page.Goals as goal
 
-pub returns-in-Page : goal.returns-in-Page
-returns-in-Page c =
-    let e = sym c.index_page.ensures ∙ c.in-Page.is in
+pub returns-in-Ok : goal.returns-in-Ok
+returns-in-Ok c =
+    let e = sym c.index_page.ensures ∙ c.in-Ok.is in
     rw e c.give.ensures
 
-pub returns-in-Refused : goal.returns-in-Refused
-returns-in-Refused c =
-    let e = sym c.index_page.ensures ∙ c.in-Refused.is in
-    rw e c.give-in-Refused.ensures
+pub returns-in-Err : goal.returns-in-Err
+returns-in-Err c =
+    let e = sym c.index_page.ensures ∙ c.in-Err.is in
+    rw (e, sym c.from.ensures) c.give-in-Err.ensures

@@ -1,4 +1,5 @@
 -- `probe::splits::tyvarmos_split` meets its contract: it tells and leaves the split's answer and cuts, and 1 where the answer buffer is short. Assumes nothing.
+use mathlib.Core.Path.{◌∙◌}
 use native.Mathlib.Omega.{arith}
 use lib.ListN.{length}
 use Rattle.cuts.specs.Parted.{split_of, block_cuts, list_left}
@@ -11,7 +12,8 @@ pub returns-then-answer-lt-PARTED_FIELDS : goal.returns-then-answer-lt-PARTED_FI
 returns-then-answer-lt-PARTED_FIELDS c =
     let a = c.args in
     let r = split_of a.p a.block.now (length a.cuts.now) in
-    told_short (parted_fields r) a.answer.now a.cuts.now (list_left r (block_cuts a.p a.block.now) a.cuts.now) 4 (parted_count r) (omega arith)
+    let s = told_short (parted_fields r) a.answer.now a.cuts.now (list_left r (block_cuts a.p a.block.now) a.cuts.now) 4 (parted_count r) (omega arith) in
+    (c.from.ensures ∙ s.0, s.1, s.2)
 
 pub returns : goal.returns
 returns c =

@@ -1,4 +1,5 @@
 -- `probe::splits::tyvarmos_split_write` meets its contract: it tells and leaves the written pieces' answer and bytes, and 1 where the answer buffer is short. Assumes nothing.
+use mathlib.Core.Path.{◌∙◌}
 use native.Mathlib.Omega.{arith}
 use lib.ListN.{length}
 use Rattle.page.specs.Layout.{is_leaf}
@@ -13,7 +14,8 @@ returns-then-answer-lt-WRITTEN_FIELDS c =
     let a = c.args in
     let r = split_write_of a.p a.n a.block.now a.pages.now (length a.out.now) in
     let made = pack_all (is_leaf a.block.now) a.p a.pages.now (block_pieces a.p a.block.now) in
-    told_short (written_fields r) a.answer.now a.out.now (out_left r made a.out.now) 5 (written_count r) (omega arith)
+    let s = told_short (written_fields r) a.answer.now a.out.now (out_left r made a.out.now) 5 (written_count r) (omega arith) in
+    (c.from.ensures ∙ s.0, s.1, s.2)
 
 pub returns : goal.returns
 returns c =

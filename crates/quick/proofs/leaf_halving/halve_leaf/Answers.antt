@@ -1,7 +1,8 @@
-use mathlib.Core.Path.{◌≡◌, sym, ◌∙◌}
+use mathlib.Core.Path.{◌≡◌, sym, ap, ◌∙◌}
 use mathlib.Core.Bool.{true, false}
 use Prim.Native.Nat.{◌+◌, ◌/◌, ◌<◌}
 use native.Mathlib.Omega.{arith}
+use Rattle.std.specs.Prelude.{Ok}
 use Rattle.page.specs.Layout.{count_of}
 use Rattle.page.specs.PageRules.{element_bad}
 use Rattle.page.proofs.LayoutLaws.{element_room}
@@ -10,32 +11,9 @@ use Rattle.quick.proofs.TurnLaws.{halfway, halves_all, halve_end, halve_breach, 
 use Rattle.quick.proofs.leaf_halving.halve_leaf.Goals as goal
 use Rattle.quick.proofs.leaf_halving.halve_leaf.Goals.{Else-leaf_bad}
 
-pub overflow_mul-end : goal.overflow_mul-end
-overflow_mul-end c = let s = c.requires in let e = s.0 in let l = s.1 in omega arith
-
-pub overflow_add-end : goal.overflow_add-end
-overflow_add-end c = let s = c.requires in let e = s.0 in let l = s.1 in omega arith
-
 pub loop-low-init : goal.loop-low-init
 loop-low-init c =
     (omega arith, omega arith, halves_all true c.args.b.now c.args.key.now c.args.n c.requires.0)
-
-pub overflow_add-middle : goal.overflow_add-middle
-overflow_add-middle c =
-    let s = c.requires in
-    let e = s.0 in
-    let l = s.1 in
-    let h = c.loop-low.invariant.1 in
-    omega arith
-
-pub leaf_bad-requires : goal.leaf_bad-requires
-leaf_bad-requires c =
-    let s = c.requires in
-    let l = c.loop-low in
-    let e = s.0 in
-    let f = s.1 in
-    let h = l.invariant.1 in
-    (omega arith, omega arith, omega arith)
 
 pub returns-then-leaf_bad : goal.returns-then-leaf_bad
 returns-then-leaf_bad c =
@@ -57,12 +35,12 @@ key_order-requires c =
     let w = (element_good true b m (good c)).1 in
     (element_room true b m i c.requires.1, omega arith)
 
-pub loop-low-preserved-in-Lower : goal.loop-low-preserved-in-Lower
-loop-low-preserved-in-Lower c =
+pub loop-low-preserved-in-Less : goal.loop-low-preserved-in-Less
+loop-low-preserved-in-Less c =
     let a = c.args in
-    let o = sym c.key_order.ensures ∙ c.in-Lower.is in
+    let o = sym c.key_order.ensures ∙ c.in-Less.is in
     let h = c.loop-low.invariant.1 in
-    (omega arith, omega arith, c.loop-low.invariant.2 ∙ halve_lower true a.b.now a.key.now c.loop-low.low c.loop-low.high (omega arith) _ (halfway c.loop-low.low c.loop-low.high (omega arith)) (good (goal.at.loop-low-preserved-in-Lower c).Else-leaf_bad) o)
+    (omega arith, omega arith, c.loop-low.invariant.2 ∙ halve_lower true a.b.now a.key.now c.loop-low.low c.loop-low.high (omega arith) _ (halfway c.loop-low.low c.loop-low.high (omega arith)) (good (goal.at.loop-low-preserved-in-Less c).Else-leaf_bad) o)
 
 pub returns-in-Equal : goal.returns-in-Equal
 returns-in-Equal c =
@@ -73,11 +51,11 @@ returns-in-Equal c =
 pub loop-low-preserved : goal.loop-low-preserved
 loop-low-preserved c =
     let a = c.args in
-    let o = sym c.key_order.ensures ∙ c.in-Higher.is in
+    let o = sym c.key_order.ensures ∙ c.in-Greater.is in
     let h = c.loop-low.invariant.1 in
     (omega arith, omega arith, c.loop-low.invariant.2 ∙ halve_higher true a.b.now a.key.now c.loop-low.low c.loop-low.high (omega arith) _ (halfway c.loop-low.low c.loop-low.high (omega arith)) (good (goal.at.loop-low-preserved c).Else-leaf_bad) o)
 
 pub returns : goal.returns
 returns c =
     let a = c.args in
-    c.place_at.ensures ∙ sym (c.loop-low.invariant.2 ∙ halve_end true a.b.now a.key.now c.loop-low.low c.loop-low.high (omega arith))
+    ap Ok c.place_at.ensures ∙ sym (c.loop-low.invariant.2 ∙ halve_end true a.b.now a.key.now c.loop-low.low c.loop-low.high (omega arith))
