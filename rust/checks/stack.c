@@ -1,6 +1,6 @@
 /*
  * Measures how much stack each call takes, on a tree of every depth up to one too many, and fails where the header
- * promises less. A thread runs on a stack filled with a pattern; what it changed is what it used.
+ * says that it is less, or promises less. A thread runs on a stack filled with a pattern; what it changed is what it used.
  */
 #define _POSIX_C_SOURCE 200809L
 #include <inttypes.h>
@@ -11,7 +11,7 @@
 
 #include "tyvarmos.h"
 
-enum { PAGE = 1024, PAGES = 20, ROOT = 2, FREELIST = 19, DEEPEST = 17, STACK = 1 << 20, PATTERN = 0xA5, LITTLE = 1024 };
+enum { PAGE = 1024, PAGES = 20, ROOT = 2, FREELIST = 19, DEEPEST = 17, STACK = 1 << 20, PATTERN = 0xA5, LITTLE = 1024, DEEP = 20000 };
 enum call { NOTHING, LOOKUP, QUICK, META, JUDGE, CALLS };
 
 static unsigned char image[PAGES * PAGE];
@@ -98,5 +98,6 @@ int main(void)
     }
     printf("bytes of stack: lookup %zu, quick %zu, meta %zu, judge %zu\n", most[LOOKUP], most[QUICK], most[META],
            most[JUDGE]);
-    return most[LOOKUP] > LITTLE || most[QUICK] > LITTLE || most[META] > LITTLE || most[JUDGE] > TYVARMOS_JUDGE_STACK;
+    return most[LOOKUP] > LITTLE || most[QUICK] > LITTLE || most[META] > LITTLE || most[JUDGE] >= DEEP ||
+           most[JUDGE] > TYVARMOS_JUDGE_STACK;
 }

@@ -34,7 +34,10 @@ pub fn half(p: usize) -> u64
 pub fn add_capped(a: usize, b: usize, cap: usize) -> usize
     ensures { result ≡ min (a + b) cap }
 {
-    a.saturating_add(b).min(cap)
+    if cap.saturating_sub(a) <= b {
+        return cap;
+    }
+    a + b
 }
 
 // The sum that a run starts with after the cut at `c`, or at the start, counted no further than `cap`.

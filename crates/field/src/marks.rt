@@ -43,8 +43,8 @@ fn with_marks_in(word: u64, page: u64, k: u64) -> u64
 }
 
 // The lowest marked page from `from` up to `to`, looked for one by one; `to` where none is.
-fn lowest_from(marks: &[u64; 512], from: usize, to: usize) -> usize
-    requires { (from ≤ to) × (to ≤ 32768) }
+fn lowest_from(marks: &[u64], from: usize, to: usize) -> usize
+    requires { (length marks.now ≡ 512) × (from ≤ to) × (to ≤ 32768) }
     ensures { result ≡ lowest_marked marks.now from (to - from) }
 {
     for at in from..to {
@@ -56,8 +56,8 @@ fn lowest_from(marks: &[u64; 512], from: usize, to: usize) -> usize
 }
 
 // The lowest marked page from `from` up to `to`, looked for by words; `to` where none is.
-pub fn lowest_marked(marks: &[u64; 512], from: usize, to: usize) -> usize
-    requires { (from ≤ to) × (to ≤ 32768) }
+pub fn lowest_marked(marks: &[u64], from: usize, to: usize) -> usize
+    requires { (length marks.now ≡ 512) × (from ≤ to) × (to ≤ 32768) }
     ensures { result ≡ lowest_marked marks.now from (to - from) }
 {
     let mut at = from;
@@ -73,8 +73,8 @@ pub fn lowest_marked(marks: &[u64; 512], from: usize, to: usize) -> usize
 }
 
 // Marks the pages from `from` up to `to`, by words.
-pub fn mark_pages(marks: &mut [u64; 512], from: usize, to: usize)
-    requires { (from ≤ to) × (to ≤ 32768) }
+pub fn mark_pages(marks: &mut [u64], from: usize, to: usize)
+    requires { (length marks.old ≡ 512) × (from ≤ to) × (to ≤ 32768) }
     ensures { marks.new ≡ with_marks marks.old from (to - from) }
 {
     let mut at = from;

@@ -64,6 +64,7 @@ pub fn compare(a: &[u8], b: &[u8]) -> Parting
 }
 
 // Kept: std's `cmp` of slices takes 1.1 to 1.5 of the time, and login's lookup has none to spare (docs/SPEED.md).
+// Kept, the loops by words here and in `is_below`: by `step_by` login's lookup and the check of a branch miss bars (docs/DESIGN-PASS.md).
 // The order of two keys, by words: after the last whole word of the shorter, one more word that ends with it, of which the first bytes are alike.
 pub fn order_of(a: &[u8], b: &[u8]) -> Ordering
     ensures { result ≡ order_of a.now b.now }
@@ -73,7 +74,8 @@ pub fn order_of(a: &[u8], b: &[u8]) -> Ordering
         return order_at(a, b, common_of(a, b));
     }
     let tail = n - 8;
-    for i in (0..tail).step_by(8) {
+    let mut i = 0;
+    while i < tail {
         let x = big_u64_at(a, i);
         let y = big_u64_at(b, i);
         if x != y {
@@ -82,6 +84,7 @@ pub fn order_of(a: &[u8], b: &[u8]) -> Ordering
             }
             return Ordering::Greater;
         }
+        i += 8;
     }
     let x = big_u64_at(a, tail);
     let y = big_u64_at(b, tail);
@@ -102,12 +105,14 @@ pub fn is_below(a: &[u8], b: &[u8]) -> bool
     if n < 8 {
         return lower_at(a, b, common_of(a, b));
     }
-    for i in (0..n - 7).step_by(8) {
+    let mut i = 0;
+    while 8 <= n - i {
         let x = big_u64_at(a, i);
         let y = big_u64_at(b, i);
         if x != y {
             return x < y;
         }
+        i += 8;
     }
     let last = n - 8;
     let x = big_u64_at(a, last);

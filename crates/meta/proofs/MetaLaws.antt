@@ -12,9 +12,9 @@ module _ (page : List ℕ) (m : Meta) where
   unfolding read_of
   read_right long type fields hash = simp (le-ltb _ _ long, eq-eqb _ _ type, sym fields, eq-eqb _ _ hash)
 
-  pub write_right : 104 ≤ length page → get_or page 8 0 ≡ 3 → page_left page m ≡ put_at page 32 (meta_bytes m)
+  pub write_right : 104 ≤ length page → get_or page 8 0 ≡ 3 → (write_of page m ≡ Ok (hash_of m)) × (page_left page m ≡ put_at page 32 (meta_bytes m))
   unfolding write_of page_left
-  write_right long type = simp (le-ltb _ _ long, eq-eqb _ _ type)
+  write_right long type = (simp (le-ltb _ _ long, eq-eqb _ _ type), simp (le-ltb _ _ long, eq-eqb _ _ type))
 
   pub left_or_put : (page_left page m ≡ page) ⊎ ((104 ≤ length page) × (page_left page m ≡ put_at page 32 (meta_bytes m)))
   unfolding write_of page_left

@@ -103,7 +103,7 @@ read_back page m r long type =
     let fits : 32 + length run ≤ length page = omega (arith, length_meta m) in
     let n = length-put page 32 run fits in
     let t = put_before page run 32 fits 8 (lit< tt) ∙ type in
-    ap read_of (write_right page m long type)
+    ap read_of (write_right page m long type).1
     ∙ read_right (put_at page 32 run) (with_hash m) (omega arith) t (sym (meta_back page m r long)) (own_hash m)
 
 -- the page keeps its length

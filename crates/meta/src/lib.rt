@@ -57,6 +57,7 @@ pub struct Meta {
 }
 
 // The hash of the nine fields before it, each with its highest byte first.
+#[inline(never)]
 #[tactic(auto, unfolding(crate::specs::Meta::hash_input), using(crate::proofs::HashLaws::hash_append))]
 pub fn hash_of(m: Meta) -> u64
     ensures { result ≡ hash_of m }
@@ -92,7 +93,9 @@ fn meta_at(page: &[u8]) -> Meta
     }
 }
 
-// The meta of the page: `Geometry` for fewer than 104 bytes, `Header` for another type, `Hash` for another hash.
+// The meta of the page: `Geometry` for fewer than 104 bytes, `Header` for another type, `Hash` for another hash. It is put into its callers, and
+// the hash is not, so that to look for a page size, which refuses up to 8,065 of them, makes no Result of each.
+#[inline(always)]
 #[tactic(auto, unfolding(crate::specs::Meta::read_of))]
 pub fn read_meta(page: &[u8]) -> Result<Meta, Refusal>
     ensures { result ≡ read_of page.now }

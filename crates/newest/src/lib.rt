@@ -34,6 +34,7 @@ fn read_at(image: &[u8], at: usize) -> Result<Meta, Refusal>
 }
 
 // The meta at byte `at`, if it counts at the page size `p`: `Argument` where it names another.
+#[inline(always)]
 fn counted(image: &[u8], at: usize, p: usize) -> Result<Meta, Refusal>
     ensures { result ≡ counts p (read_of (drop at image.now)) }
 {

@@ -8,16 +8,17 @@ use super::rules::outside;
 use field::number::u64_at;
 use field::order::is_below;
 
+// Kept, by bytes: by an index, which wants a product each turn, the full lookup misses a bar (docs/DESIGN-PASS.md).
 // Whether the `n` elements of a branch keep rules 6 and 7, in one pass: each number is read once, and of the key before its place is kept.
 pub fn branch_keeps(b: &[u8], n: usize) -> bool
     requires { (n ≡ count_of b.now) × (table_end false b.now ≤ length b.now) }
     ensures { result ≡ is_sound (elements_of false b.now) }
 {
     let end = HEADER_SIZE + BRANCH_SIZE * n;
+    let mut at = HEADER_SIZE;
     let mut start = 0;
     let mut stop = 0;
-    for i in 0..n {
-        let at = HEADER_SIZE + BRANCH_SIZE * i;
+    while at < end {
         let key = u64_at(b, at + 8) as usize;
         let pos = u64_at(b, at + 16) as usize;
         if outside(end, b.len(), at, pos, key, 0) {
@@ -25,13 +26,14 @@ pub fn branch_keeps(b: &[u8], n: usize) -> bool
         }
         let from = at + pos;
         let to = from + key;
-        if 0 < i {
+        if HEADER_SIZE < at {
             if !is_below(&b[start..stop], &b[from..to]) {
                 return false;
             }
         }
         start = from;
         stop = to;
+        at += BRANCH_SIZE;
     }
     true
 }

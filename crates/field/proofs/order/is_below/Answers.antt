@@ -1,4 +1,4 @@
-use Prim.Native.Nat.{◌-◌, ◌≤◌}
+use Prim.Native.Nat.{◌-◌}
 use mathlib.Core.Path.{sym, ap₂, ◌∙◌}
 use native.Mathlib.Omega.{arith}
 use lib.Dec.{ltb}
@@ -6,28 +6,13 @@ use Rattle.field.proofs.FieldLaws.{Bytes}
 use Rattle.field.proofs.CommonLaws.{least, by_length}
 use Rattle.field.proofs.WordLaws.{parts_here, goes_on}
 use Rattle.field.proofs.order.is_below.Goals as goal
-use Rattle.field.specs.Order.{common_of}
-use Rattle.field.proofs.order.is_below.Goals.{At-loop-i, After-big_u64_at-x-2, else-loop-i-test, then-loop-i-test+else-x-y+else-i-end-i-gt8}
+use Rattle.field.proofs.order.is_below.Goals.{At-loop-i}
 
 left-bytes : (c : At-loop-i) → Bytes c.args.a.now
 left-bytes c k = omega (arith, c.shared_slice_known-1.given k)
 
 right-bytes : (c : At-loop-i) → Bytes c.args.b.now
 right-bytes c k = omega (arith, c.shared_slice_known-2-1.given k)
-
--- they are alike before the last word
-alike : (c : After-big_u64_at-x-2) → c.min-n.result - 8 ≤ common_of c.args.a.now c.args.b.now
-alike c =
-    elim c.loop-i-test.branch [
-      | else-loop-i-test w ↦ omega (arith, w.loop-i-test.false, c.loop-i.invariant.4)
-      | then-loop-i-test+else-x-y+else-i-end-i-gt8 w ↦
-          let same = w.big_u64_at-x.ensures in
-          let other = w.big_u64_at-y.ensures in
-          let equal = w.if-x-y.false in
-          let test = w.loop-i-test.true in
-          let more = goes_on _ _ (left-bytes (goal.at.After-big_u64_at-x-2 c).At-loop-i) (right-bytes (goal.at.After-big_u64_at-x-2 c).At-loop-i) c.loop-i.i c.loop-i.invariant.4 (omega arith) (omega arith) (omega arith) in
-          omega arith
-    ]
 
 pub returns-then-x-y : goal.returns-then-x-y
 returns-then-x-y c =
@@ -43,13 +28,13 @@ pub returns-then-x-y-2 : goal.returns-then-x-y-2
 returns-then-x-y-2 c =
     let x = c.big_u64_at-x-2.ensures in
     let y = c.big_u64_at-y-2.ensures in
-    ap₂ ltb x y ∙ sym (parts_here _ _ (left-bytes (goal.at.returns-then-x-y-2 c).At-loop-i) (right-bytes (goal.at.returns-then-x-y-2 c).At-loop-i) _ (alike (goal.at.returns-then-x-y-2 c).After-big_u64_at-x-2) (omega arith) (omega arith) (λ e. c.if-x-y-2.true (x ∙ e ∙ sym y)))
+    ap₂ ltb x y ∙ sym (parts_here _ _ (left-bytes (goal.at.returns-then-x-y-2 c).At-loop-i) (right-bytes (goal.at.returns-then-x-y-2 c).At-loop-i) _ (omega (arith, c.loop-i.invariant.4)) (omega arith) (omega arith) (λ e. c.if-x-y-2.true (x ∙ e ∙ sym y)))
 
 pub returns : goal.returns
 returns c =
     let a = c.args in
     let n = c.min-n.result in
-    let same = goes_on a.a.now a.b.now (left-bytes (goal.at.returns c).At-loop-i) (right-bytes (goal.at.returns c).At-loop-i) (n - 8) (alike (goal.at.returns c).After-big_u64_at-x-2) (omega arith) (omega arith) (omega arith) in
+    let same = goes_on a.a.now a.b.now (left-bytes (goal.at.returns c).At-loop-i) (right-bytes (goal.at.returns c).At-loop-i) (n - 8) (omega (arith, c.loop-i.invariant.4)) (omega arith) (omega arith) (omega arith) in
     sym (by_length a.a.now a.b.now n (omega arith) (least _ _ _ c.min-n.ensures).2)
 
 pub lower_at-requires : goal.lower_at-requires

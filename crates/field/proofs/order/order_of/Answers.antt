@@ -1,32 +1,17 @@
-use Prim.Native.Nat.{◌-◌, ◌≤◌}
+use Prim.Native.Nat.{◌-◌}
 use mathlib.Core.Path.{sym}
 use native.Mathlib.Omega.{arith}
 use Rattle.field.proofs.FieldLaws.{Bytes}
 use Rattle.field.proofs.CommonLaws.{least, ended}
 use Rattle.field.proofs.WordLaws.{lower_here, higher_here, goes_on}
 use Rattle.field.proofs.order.order_of.Goals as goal
-use Rattle.field.specs.Order.{common_of}
-use Rattle.field.proofs.order.order_of.Goals.{At-loop-i, After-big_u64_at-x-2, else-loop-i-test, then-loop-i-test+else-x-y+else-tail-i-gt8}
+use Rattle.field.proofs.order.order_of.Goals.{At-loop-i}
 
 left-bytes : (c : At-loop-i) → Bytes c.args.a.now
 left-bytes c k = omega (arith, c.shared_slice_known-1.given k)
 
 right-bytes : (c : At-loop-i) → Bytes c.args.b.now
 right-bytes c k = omega (arith, c.shared_slice_known-2-1.given k)
-
--- they are alike before the last word
-alike : (c : After-big_u64_at-x-2) → c.min-n.result - 8 ≤ common_of c.args.a.now c.args.b.now
-alike c =
-    elim c.loop-i-test.branch [
-      | else-loop-i-test w ↦ omega (arith, w.loop-i-test.false, c.loop-i.invariant.4)
-      | then-loop-i-test+else-x-y+else-tail-i-gt8 w ↦
-          let same = w.big_u64_at-x.ensures in
-          let other = w.big_u64_at-y.ensures in
-          let equal = w.if-x-y.false in
-          let test = w.loop-i-test.true in
-          let more = goes_on _ _ (left-bytes (goal.at.After-big_u64_at-x-2 c).At-loop-i) (right-bytes (goal.at.After-big_u64_at-x-2 c).At-loop-i) c.loop-i.i c.loop-i.invariant.4 (omega arith) (omega arith) (omega arith) in
-          omega arith
-    ]
 
 pub returns-then-x-y-2 : goal.returns-then-x-y-2
 returns-then-x-y-2 c =
@@ -42,17 +27,17 @@ loop-i-preserved c =
 
 pub returns-then-x-y-4 : goal.returns-then-x-y-4
 returns-then-x-y-4 c =
-    sym (lower_here _ _ (left-bytes (goal.at.returns-then-x-y-4 c).At-loop-i) (right-bytes (goal.at.returns-then-x-y-4 c).At-loop-i) (c.min-n.result - 8) (alike (goal.at.returns-then-x-y-4 c).After-big_u64_at-x-2) (omega arith) (omega arith) (omega arith))
+    sym (lower_here _ _ (left-bytes (goal.at.returns-then-x-y-4 c).At-loop-i) (right-bytes (goal.at.returns-then-x-y-4 c).At-loop-i) (c.min-n.result - 8) (omega (arith, c.loop-i.invariant.4)) (omega arith) (omega arith) (omega arith))
 
 pub returns-then-x-y-3 : goal.returns-then-x-y-3
 returns-then-x-y-3 c =
-    sym (higher_here _ _ (left-bytes (goal.at.returns-then-x-y-3 c).At-loop-i) (right-bytes (goal.at.returns-then-x-y-3 c).At-loop-i) (c.min-n.result - 8) (alike (goal.at.returns-then-x-y-3 c).After-big_u64_at-x-2) (omega arith) (omega arith) (omega arith))
+    sym (higher_here _ _ (left-bytes (goal.at.returns-then-x-y-3 c).At-loop-i) (right-bytes (goal.at.returns-then-x-y-3 c).At-loop-i) (c.min-n.result - 8) (omega (arith, c.loop-i.invariant.4)) (omega arith) (omega arith) (omega arith))
 
 pub order_at-requires-2 : goal.order_at-requires-2
 order_at-requires-2 c =
     let a = c.args in
     let n = c.min-n.result in
-    let same = goes_on a.a.now a.b.now (left-bytes (goal.at.order_at-requires-2 c).At-loop-i) (right-bytes (goal.at.order_at-requires-2 c).At-loop-i) (n - 8) (alike (goal.at.order_at-requires-2 c).After-big_u64_at-x-2) (omega arith) (omega arith) (omega arith) in
+    let same = goes_on a.a.now a.b.now (left-bytes (goal.at.order_at-requires-2 c).At-loop-i) (right-bytes (goal.at.order_at-requires-2 c).At-loop-i) (n - 8) (omega (arith, c.loop-i.invariant.4)) (omega arith) (omega arith) (omega arith) in
     ended a.a.now a.b.now n (omega arith) (least _ _ _ c.min-n.ensures).2
 
 pub order_at-requires : goal.order_at-requires

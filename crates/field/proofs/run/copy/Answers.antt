@@ -1,12 +1,22 @@
--- `field::run::copy` meets its contract: the part that it overwrites is the run put. Assumes nothing.
+use Prim.Native.Nat.{◌+◌}
+use mathlib.Core.Path.{refl, sym, ◌∙◌}
+use native.Mathlib.Nat.{add-zero}
 use native.Mathlib.Omega.{arith}
-use mathlib.Core.Path.{ap, ◌∙◌}
-use Rattle.field.specs.Run.{put_at}
-use Rattle.field.proofs.RunLaws.{mid_put}
+use lib.ListN.{length-set}
+use Rattle.field.proofs.RunLaws.{put_turn, put_done}
 use Rattle.field.proofs.run.copy.Goals as goal
+
+pub loop-j-init : goal.loop-j-init
+loop-j-init c = (refl, rw add-zero)
+
+pub loop-j-preserved : goal.loop-j-preserved
+loop-j-preserved c =
+    let l = c.loop-j in
+    let a = c.args in
+    (simp length-set l.invariant.0, put_turn l.out a.src.now a.at l.j (omega arith) (omega arith) ∙ l.invariant.1)
 
 pub returns : goal.returns
 returns c =
+    let l = c.loop-j in
     let a = c.args in
-    let e = c.copy_from_slice.ensures in
-    mid_put a.out.now _ a.at _ (rw e.after (omega arith)) ∙ ap (put_at a.out.now a.at) e.after
+    sym (put_done l.out a.src.now (a.at + l.j) l.j (omega arith)) ∙ l.invariant.1
